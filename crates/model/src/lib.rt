@@ -1,0 +1,3 @@
+// The subject's types that every layer shares, and its rules.
+pub mod kind;
+pub mod refusal;
