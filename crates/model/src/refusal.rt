@@ -11,6 +11,6 @@ pub enum Layer {
 #[derive(Clone, Copy)]
 pub struct Refusal {
     pub number: u8,
-    pub line: u32,
+    pub line: usize,
     pub layer: Layer,
 }

@@ -1,0 +1,5 @@
+pub mod Pieces
+pub mod Meaning
+pub mod Once
+pub mod LineEnds
+pub mod Answered

@@ -1,0 +1,5 @@
+pub mod Lines
+pub mod Grammar
+pub mod Rules
+pub mod Reading
+pub mod Scan

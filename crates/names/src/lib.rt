@@ -1,0 +1,2 @@
+// Names as parts of a text, and the table of the names seen so far.
+pub mod name;

@@ -1,0 +1,4 @@
+pub mod Tokens
+pub mod Windows
+pub mod Faults
+pub mod Shapes
