@@ -1,2 +1,3 @@
 mod Broken
 mod Limits
+mod Steps

@@ -1,10 +1,42 @@
--- What has been declared so far.
-use mathlib.Core.List.{List, map}
+-- What has been declared so far, and what one line, one statement and a whole text do to it.
+use mathlib.Core.Path.{_≡_}
+use mathlib.Core.List.{List, [], _∷_, _++_, map}
+use mathlib.Core.Logic.{_⊎_}
+use Prim.Native.Nat.{ℕ}
 use Rattle.std.specs.Of.Vec.{vec-items}
-use Rattle.grammar.specs.Rules as rules
+use Rattle.std.specs.declared.result.Result.{Result}
+use Rattle.std.specs.declared.result.Result.the-variants.{Ok, Err}
+use Rattle.model.specs.Refusals.{refusal}
+use Rattle.grammar.specs.Grammar.{Statement, SaysNothing}
+use Rattle.grammar.specs.Rules.{Declaration, Redefines, Relists, BeyondLimit}
+use Rattle.grammar.specs.Reading.{Refused, Accepted, Answer, accepted, refused}
+use Rattle.text.specs.declared.reader.Line.{Line}
+use Rattle.text.specs.Windows.{bytes}
 use Rattle.bench.specs.declared.declarations.Declarations.{Declarations}
+use Rattle.bench.specs.declared.fault.StatementFault.{StatementFault}
+use Rattle.bench.specs.declared.fault.StatementFault.the-variants as fault
+use Rattle.bench.specs.Faults.{statementRefusal}
 use Rattle.bench.specs.Statements.{declaration}
 
 -- the statements with their lines, in line order
-abbrev pub declared : Declarations → List rules.Declaration
+abbrev pub declared : Declarations → List Declaration
 declared d = map declaration (vec-items (d .list))
+
+-- one statement more, or the smallest of the refusals 7 to 9 that holds, and then nothing changes
+abbrev pub Declares : Declarations → ℕ → Statement → Result (Unit {0}) StatementFault → Declarations → Type 0
+Declares d k s (Ok u) e = (Redefines (declared d) s → ⊥) × (Relists (declared d) s → ⊥) × (BeyondLimit (declared d) k s → ⊥) × (declared e ≡ declared d ++ record { line = k; says = s } ∷ [])
+Declares d k s (Err (fault.DefinedBefore j)) e = (j ≡ k) × Redefines (declared d) s × (e ≡ d)
+Declares d k s (Err (fault.ListedBefore j)) e = (j ≡ k) × (Redefines (declared d) s → ⊥) × Relists (declared d) s × (e ≡ d)
+Declares d k s (Err (fault.BeyondLimit j)) e = (j ≡ k) × (Redefines (declared d) s → ⊥) × (Relists (declared d) s → ⊥) × BeyondLimit (declared d) k s × (e ≡ d)
+Declares d k s (Err (fault.Text f)) e = ⊥
+Declares d k s (Err (fault.UnknownKind j)) e = ⊥
+Declares d k s (Err (fault.OperandCount j)) e = ⊥
+
+-- a line that says nothing, one statement more, or the smallest refusal that holds
+abbrev pub ReadsLine : Declarations → Line → Result (Unit {0}) StatementFault → Declarations → Type 0
+ReadsLine d l (Ok u) e = (SaysNothing (bytes l) × (declared e ≡ declared d)) ⊎ ((s : Statement) × Accepted (declared d) (l .number) (bytes l) s × (declared e ≡ declared d ++ record { line = l .number; says = s } ∷ []))
+ReadsLine d l (Err f) e = (n : ℕ) × (statementRefusal f ≡ refusal n (l .number)) × Refused (declared d) (l .number) (bytes l) n × (declared e ≡ declared d)
+
+abbrev pub answer : Result (Unit {0}) StatementFault → Answer
+answer (Ok u) = accepted
+answer (Err f) = refused (statementRefusal f)

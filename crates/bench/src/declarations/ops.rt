@@ -2,7 +2,7 @@ ghost use mathlib.Core.Path.{_≡_};
 ghost use mathlib.Core.List.{[], _∷_, _++_};
 ghost use Rattle.std.specs.Orderings.{Decides};
 ghost use Rattle.std.specs.Vec.{made};
-ghost use Prim.Native.Nat.{_+_, _-_, _≤_};
+ghost use Prim.Native.Nat.{_+_, _-_, _<_, _≤_};
 ghost use Rattle.names.specs.Tables.{held};
 ghost use lib.Dec.{leb, ltb};
 ghost use lib.ListN.{length};
@@ -10,7 +10,10 @@ ghost use mathlib.Core.Bool.{false};
 ghost use Rattle.grammar.specs.Rules.{nets, inputs, outputs, pins, netOf, inputOf, outputOf, pinsOf, Redefines, Relists, tooMany};
 ghost use Rattle.text.specs.Tokens.{namesLeft};
 ghost use Rattle.bench.specs.Statements.{said};
-ghost use Rattle.bench.specs.SoFar.{declared};
+ghost use Rattle.text.specs.declared.fault.TextFault.the-variants.{TooLong};
+ghost use Rattle.std.specs.Results.{Cases};
+ghost use Rattle.grammar.specs.Reading.{Reads};
+ghost use Rattle.bench.specs.SoFar.{declared, Declares, ReadsLine, answer};
 use super::Declarations;
 use crate::fault::StatementFault;
 use crate::statement::Declaration;
@@ -19,12 +22,26 @@ use names::name::Name;
 use names::table::Names;
 use std::alloc::AllocError;
 use std::alloc::Global;
+use crate::fault::StatementFromText;
+use crate::statement::ops::read_statement;
 use text::cursor::Cursor;
+use text::fault::TextFault;
+use text::reader::Line;
+use text::reader::Reader;
 
 const NETS: u16 = 2048;
 const PINS: usize = 8192;
 const INPUTS: usize = 64;
 const OUTPUTS: u16 = 64;
+
+fn check_length(text: &[u8]) -> Result<(), TextFault>
+    ensures { λ r. ⌜ Cases r (λ _. length (now (text .entry)) ≤ 65536) (λ e. (e ≡ TooLong) × (65536 < length (now (text .entry)))) ⌝ }
+{
+    if text.len() > 65536 {
+        return Err(TextFault::TooLong);
+    }
+    Ok(())
+}
 
 fn inputs_in(says: Statement<'_>) -> usize
     ensures { λ r. ⌜ r ≡ length (inputOf (said (says .entry))) ⌝ }
@@ -160,5 +177,43 @@ impl<'a> Declarations<'a> {
         self.inputs += inputs_in(says);
         self.pins += pins_in(says);
         self.list.push_reserved(Declaration { line, says });
+    }
+
+    // One declaration more, or the smallest of the refusals 7 to 9 that holds.
+    fn declare(&mut self, line: usize, says: Statement<'a>) -> Result<(), StatementFault>
+        ensures { λ r. ⌜ Declares (now (self .entry)) line (said (says .entry)) r (now (self .exit)) ⌝ }
+    {
+        if self.redefines(says) {
+            return Err(StatementFault::DefinedBefore(line));
+        }
+        if self.relists(says) {
+            return Err(StatementFault::ListedBefore(line));
+        }
+        if self.exceeds(line, says) {
+            return Err(StatementFault::BeyondLimit(line));
+        }
+        self.note(line, says);
+        Ok(())
+    }
+
+    fn read_line(&mut self, line: Line<'a>) -> Result<(), StatementFault>
+        ensures { λ r. ⌜ ReadsLine (now (self .entry)) (line .entry) r (now (self .exit)) ⌝ }
+    {
+        match read_statement(line)? {
+            None => Ok(()),
+            Some(says) => self.declare(line.number, says),
+        }
+    }
+
+    // Reads a whole text behind the declarations so far, up to its end or to the first refusal.
+    pub fn read(&mut self, text: &'a [u8]) -> Result<(), StatementFault>
+        ensures { λ r. ⌜ Reads (now (text .entry)) (declared (now (self .entry))) (answer r) (declared (now (self .exit))) ⌝ }
+    {
+        check_length(text)?;
+        let mut reader = Reader::new(text);
+        while let Some(line) = reader.next_line() {
+            self.read_line(line)?;
+        }
+        Ok(())
     }
 }

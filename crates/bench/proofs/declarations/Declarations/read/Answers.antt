@@ -1,0 +1,25 @@
+use Rattle.std.proofs.shelf.Results.{err-from-errBy}
+use Rattle.grammar.specs.Reading.{too-long, in-lines, accepted, refused}
+use Rattle.bench.specs.Faults.{statementRefusal}
+use Rattle.bench.specs.SoFar.{declared}
+use Rattle.bench.proofs.Steps.{goes-on, stops-refused, stops-at-end}
+use Rattle.bench.proofs.declarations.Declarations.read.Needs as need
+
+pub returns-in-Break-check-length : need.returns-in-Break-check-length
+returns-in-Break-check-length c =
+    let p = err-from-errBy (c .from-residual .result) (c .from-residual .ensures .1) in
+    rw (p .1, p .2, c .in-Break-check-length .ensures tt .0) (too-long (c .in-Break-check-length .ensures tt .1))
+
+pub loop-line-again : need.loop-line-again
+loop-line-again c = λ a es h.
+    c .loop-line .inv a es (goes-on (c .loop-line .reader) (c .next-line .last .self) (c .in-Some .line) (c .loop-line .self) (c .read-line .last .self) tt a es (c .in-Some .ensures tt) (c .in-Continue-read-line .ensures tt) h)
+
+pub returns-in-Break-read-line : need.returns-in-Break-read-line
+returns-in-Break-read-line c =
+    let p = err-from-errBy (c .from-residual-in-Break-read-line .result) (c .from-residual-in-Break-read-line .ensures .1) in
+    let f = c .in-Break-read-line .field-0 .0 in
+    rw (p .1, p .2) (in-lines (refused (statementRefusal f)) (declared (c .read-line .last .self)) (c .in-Continue-check-length .ensures tt) (c .loop-line .inv (refused (statementRefusal f)) (declared (c .read-line .last .self)) (stops-refused (c .loop-line .reader) (c .next-line .last .self) (c .in-Some .line) (c .loop-line .self) (c .read-line .last .self) f (c .in-Some .ensures tt) (c .in-Break-read-line .ensures tt))))
+
+pub returns : need.returns
+returns c =
+    in-lines accepted (declared (c .loop-line .self)) (c .in-Continue-check-length .ensures tt) (c .loop-line .inv accepted (declared (c .loop-line .self)) (stops-at-end (c .loop-line .reader) (c .next-line .last .self) (c .loop-line .self) (c .in-rest .ensures tt)))
