@@ -29,7 +29,7 @@ use Rattle.text.specs.declared.shape.Shape.the-variants as shape
 use Rattle.text.specs.Shapes.{SpellsShort, TextReads}
 use Rattle.text.specs.Tokens.{namesLeft}
 use Rattle.text.specs.Windows.{bytes}
-use Rattle.bench.specs.declared.fault.StatementFault.the-variants.{Text} 
+use Rattle.bench.specs.declared.fault.StatementFault.the-variants.{Text}
 use Rattle.bench.specs.declared.fault.StatementFault.the-variants as refuses
 use Rattle.bench.specs.declared.statement.Statement.the-variants as statement
 use Rattle.bench.specs.Statements.{RefusedAlone, CleanAlone, Written, StatementReads}

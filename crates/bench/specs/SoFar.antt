@@ -6,9 +6,11 @@ use Prim.Native.Nat.{ℕ}
 use Rattle.std.specs.Of.Vec.{vec-items}
 use Rattle.std.specs.declared.result.Result.{Result}
 use Rattle.std.specs.declared.result.Result.the-variants.{Ok, Err}
+use lib.ListN.{length}
+use Rattle.model.specs.declared.counts.Counts.{Counts}
 use Rattle.model.specs.Refusals.{refusal}
 use Rattle.grammar.specs.Grammar.{Statement, SaysNothing}
-use Rattle.grammar.specs.Rules.{Declaration, Redefines, Relists, BeyondLimit}
+use Rattle.grammar.specs.Rules.{Declaration, nets, inputs, outputs, pins, Redefines, Relists, BeyondLimit}
 use Rattle.grammar.specs.Reading.{Refused, Accepted, Answer, accepted, refused}
 use Rattle.text.specs.declared.reader.Line.{Line}
 use Rattle.text.specs.Windows.{bytes}
@@ -21,6 +23,9 @@ use Rattle.bench.specs.Statements.{declaration}
 -- the statements with their lines, in line order
 abbrev pub declared : Declarations → List Declaration
 declared d = map declaration (vec-items (d .list))
+
+abbrev pub countsOf : List Declaration → Counts
+countsOf ds = record { nets = length (nets ds); inputs = length (inputs ds); outputs = length (outputs ds); pins = length (pins ds) }
 
 -- one statement more, or the smallest of the refusals 7 to 9 that holds, and then nothing changes
 abbrev pub Declares : Declarations → ℕ → Statement → Result (Unit {0}) StatementFault → Declarations → Type 0

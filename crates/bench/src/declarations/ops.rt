@@ -1,5 +1,5 @@
 ghost use mathlib.Core.Path.{_≡_};
-ghost use mathlib.Core.List.{[], _∷_, _++_};
+ghost use mathlib.Core.List.{[], _∷_, _++_, map};
 ghost use Rattle.std.specs.Orderings.{Decides};
 ghost use Rattle.std.specs.Vec.{made};
 ghost use Prim.Native.Nat.{_+_, _-_, _<_, _≤_};
@@ -9,29 +9,32 @@ ghost use lib.ListN.{length};
 ghost use mathlib.Core.Bool.{false};
 ghost use Rattle.grammar.specs.Rules.{nets, inputs, outputs, pins, netOf, inputOf, outputOf, pinsOf, Redefines, Relists, tooMany};
 ghost use Rattle.text.specs.Tokens.{namesLeft};
-ghost use Rattle.bench.specs.Statements.{said};
+ghost use Rattle.bench.specs.Statements.{said, declaration};
 ghost use Rattle.text.specs.declared.fault.TextFault.the-variants.{TooLong};
 ghost use Rattle.std.specs.Results.{Cases};
-ghost use Rattle.grammar.specs.Reading.{Reads};
-ghost use Rattle.bench.specs.SoFar.{declared, Declares, ReadsLine, answer};
+ghost use Rattle.grammar.specs.Reading.{One-reading, One-statement, Reads};
+ghost use Rattle.bench.specs.SoFar.{declared, countsOf, Declares, ReadsLine, answer};
 use super::Declarations;
 use crate::fault::StatementFault;
+use crate::fault::StatementFromText;
 use crate::statement::Declaration;
 use crate::statement::Statement;
-use names::name::Name;
+use crate::statement::ops::read_statement;
+use model::counts::Counts;
 use names::table::Names;
 use std::alloc::AllocError;
 use std::alloc::Global;
-use crate::fault::StatementFromText;
-use crate::statement::ops::read_statement;
 use text::cursor::Cursor;
 use text::fault::TextFault;
 use text::reader::Line;
 use text::reader::Reader;
 
 const NETS: u16 = 2048;
+
 const PINS: usize = 8192;
+
 const INPUTS: usize = 64;
+
 const OUTPUTS: u16 = 64;
 
 fn check_length(text: &[u8]) -> Result<(), TextFault>
@@ -108,6 +111,24 @@ impl<'a> Declarations<'a> {
             inputs: 0,
             pins: 0,
         })
+    }
+
+    // The statements with their lines, in line order.
+    pub fn list(&self) -> &[Declaration<'a>]
+        ensures { λ r. ⌜ map declaration (now r) ≡ declared (now (self .entry)) ⌝ }
+    {
+        self.list.as_slice()
+    }
+
+    pub fn counts(&self) -> Counts
+        ensures { λ r. ⌜ r ≡ countsOf (declared (now (self .entry))) ⌝ }
+    {
+        Counts {
+            nets: self.nets.len(),
+            inputs: self.inputs,
+            outputs: self.outputs.len(),
+            pins: self.pins,
+        }
     }
 
     // Whether a statement defines a net that is defined before.
@@ -207,7 +228,9 @@ impl<'a> Declarations<'a> {
 
     // Reads a whole text behind the declarations so far, up to its end or to the first refusal.
     pub fn read(&mut self, text: &'a [u8]) -> Result<(), StatementFault>
-        ensures { λ r. ⌜ Reads (now (text .entry)) (declared (now (self .entry))) (answer r) (declared (now (self .exit))) ⌝ }
+        ensures reads { λ r. ⌜ Reads (now (text .entry)) (declared (now (self .entry))) (answer r) (declared (now (self .exit))) ⌝ }
+        ensures one_statement { λ _. ⌜ One-statement ⌝ }
+        ensures one_reading { λ _. ⌜ One-reading ⌝ }
     {
         check_length(text)?;
         let mut reader = Reader::new(text);

@@ -39,4 +39,3 @@ returns-else-nets-full-2 c =
     let d = c .args .self .now in
     let after : Statement → Bool = λ s. tooMany (declared d ++ record { line = c .args .line; says = said s } ∷ []) in
     or-second _ _ _ _ _ (c .if-nets-full-2 .left) (c .nets-full-in-Gate .ensures) (c .pins-full .ensures) (ap after (c .in-Gate .is) ∙ gate-exceeds (declared d) (c .args .line) (c .in-Gate .field-0 .bytes .now) (word (c .in-Gate .field-1)) (namesLeft (c .in-Gate .operands)) (d .within))
-

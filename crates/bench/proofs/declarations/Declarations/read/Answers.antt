@@ -1,5 +1,6 @@
 use Rattle.std.proofs.shelf.Results.{err-from-errBy}
 use Rattle.grammar.specs.Reading.{too-long, in-lines, accepted, refused}
+use Rattle.grammar.proofs.Once.{one-statement, one-reading}
 use Rattle.bench.specs.Faults.{statementRefusal}
 use Rattle.bench.specs.SoFar.{declared}
 use Rattle.bench.proofs.Steps.{goes-on, stops-refused, stops-at-end}
@@ -8,7 +9,11 @@ use Rattle.bench.proofs.declarations.Declarations.read.Needs as need
 pub returns-in-Break-check-length : need.returns-in-Break-check-length
 returns-in-Break-check-length c =
     let p = err-from-errBy (c .from-residual .result) (c .from-residual .ensures .1) in
-    rw (p .1, p .2, c .in-Break-check-length .ensures tt .0) (too-long (c .in-Break-check-length .ensures tt .1))
+    record {
+      reads = rw (p .1, p .2, c .in-Break-check-length .ensures tt .0) (too-long (c .in-Break-check-length .ensures tt .1));
+      one-statement = one-statement;
+      one-reading = one-reading;
+    }
 
 pub loop-line-again : need.loop-line-again
 loop-line-again c = λ a es h.
@@ -18,8 +23,16 @@ pub returns-in-Break-read-line : need.returns-in-Break-read-line
 returns-in-Break-read-line c =
     let p = err-from-errBy (c .from-residual-in-Break-read-line .result) (c .from-residual-in-Break-read-line .ensures .1) in
     let f = c .in-Break-read-line .field-0 .0 in
-    rw (p .1, p .2) (in-lines (refused (statementRefusal f)) (declared (c .read-line .last .self)) (c .in-Continue-check-length .ensures tt) (c .loop-line .inv (refused (statementRefusal f)) (declared (c .read-line .last .self)) (stops-refused (c .loop-line .reader) (c .next-line .last .self) (c .in-Some .line) (c .loop-line .self) (c .read-line .last .self) f (c .in-Some .ensures tt) (c .in-Break-read-line .ensures tt))))
+    record {
+      reads = rw (p .1, p .2) (in-lines (refused (statementRefusal f)) (declared (c .read-line .last .self)) (c .in-Continue-check-length .ensures tt) (c .loop-line .inv (refused (statementRefusal f)) (declared (c .read-line .last .self)) (stops-refused (c .loop-line .reader) (c .next-line .last .self) (c .in-Some .line) (c .loop-line .self) (c .read-line .last .self) f (c .in-Some .ensures tt) (c .in-Break-read-line .ensures tt))));
+      one-statement = one-statement;
+      one-reading = one-reading;
+    }
 
 pub returns : need.returns
 returns c =
-    in-lines accepted (declared (c .loop-line .self)) (c .in-Continue-check-length .ensures tt) (c .loop-line .inv accepted (declared (c .loop-line .self)) (stops-at-end (c .loop-line .reader) (c .next-line .last .self) (c .loop-line .self) (c .in-rest .ensures tt)))
+    record {
+      reads = in-lines accepted (declared (c .loop-line .self)) (c .in-Continue-check-length .ensures tt) (c .loop-line .inv accepted (declared (c .loop-line .self)) (stops-at-end (c .loop-line .reader) (c .next-line .last .self) (c .loop-line .self) (c .in-rest .ensures tt)));
+      one-statement = one-statement;
+      one-reading = one-reading;
+    }
