@@ -4,7 +4,7 @@ use Rattle.std.proofs.shelf.Lists.{length-push}
 use Rattle.report.proofs.number.+width.Needs as need
 
 pub add-result : need.add-result
-add-result t c = search (needs, length-decimal-le 10)
+add-result t c = search (needs, length-decimal-le 20)
 
 pub returns-then-n-lt10 : need.returns-then-n-lt10
 returns-then-n-lt10 t c = search (needs, decimal-digit)
