@@ -1,6 +1,6 @@
 -- What the reader of statements answers of a line.
 use mathlib.Core.Path.{_≡_}
-use mathlib.Core.List.{List, []}
+use mathlib.Core.List.{List, [], _∷_}
 use Prim.Native.Nat.{ℕ, _<_}
 use lib.ListN.{length, getD}
 use Rattle.std.specs.declared.option.Option.{Option}
@@ -10,6 +10,7 @@ use Rattle.std.specs.declared.result.Result.the-variants.{Ok, Err}
 use Rattle.model.specs.declared.kind.Kind.{Kind}
 use Rattle.model.specs.Kinds.{word}
 use Rattle.model.specs.Refusals.{refusal}
+use Rattle.names.specs.declared.name.Name.{Name}
 use Rattle.names.specs.Places.{Stands}
 use Rattle.grammar.specs.Grammar.{input, output, gate, Spells, SaysNothing}
 use Rattle.grammar.specs.Grammar as grammar
@@ -43,6 +44,16 @@ abbrev pub StatementPlaced : List ℕ → Statement → Type 0
 StatementPlaced text (statement.Input n) = Stands text n
 StatementPlaced text (statement.Output n) = Stands text n
 StatementPlaced text (statement.Gate n k c) = Stands text n × (c .text .now ≡ text)
+
+-- the name stands at its place of the text, and so does each operand that is handed out
+abbrev pub StandsIn : List ℕ → Statement → Type 0
+StandsIn text (statement.Input n) = Stands text n
+StandsIn text (statement.Output n) = Stands text n
+StandsIn text (statement.Gate n k c) = Stands text n × ((m : Name) → Stands (c .text .now) m → Stands text m)
+
+abbrev pub AllStand : List ℕ → List Declaration → Type 0
+AllStand text [] = Unit {0}
+AllStand text (d ∷ ds) = StandsIn text (d .says) × AllStand text ds
 
 -- a rule of the line alone, and none of a smaller number, is broken, whatever was declared before
 abbrev pub RefusedAlone : Line → ℕ → Type 0

@@ -1,5 +1,5 @@
 ghost use mathlib.Core.Path.{_≡_};
-ghost use mathlib.Core.List.{[], _∷_, _++_, map};
+ghost use mathlib.Core.List.{[], _∷_, _++_};
 ghost use Rattle.std.specs.Orderings.{Decides};
 ghost use Rattle.std.specs.Vec.{made};
 ghost use Prim.Native.Nat.{_+_, _-_, _<_, _≤_};
@@ -9,11 +9,11 @@ ghost use lib.ListN.{length};
 ghost use mathlib.Core.Bool.{false};
 ghost use Rattle.grammar.specs.Rules.{nets, inputs, outputs, pins, netOf, inputOf, outputOf, pinsOf, Redefines, Relists, tooMany};
 ghost use Rattle.text.specs.Tokens.{namesLeft};
-ghost use Rattle.bench.specs.Statements.{said, declaration};
+ghost use Rattle.bench.specs.Statements.{said, AllStand};
 ghost use Rattle.text.specs.declared.fault.TextFault.the-variants.{TooLong};
 ghost use Rattle.std.specs.Results.{Cases};
 ghost use Rattle.grammar.specs.Reading.{One-reading, One-statement, Reads};
-ghost use Rattle.bench.specs.SoFar.{declared, countsOf, Declares, ReadsLine, answer};
+ghost use Rattle.bench.specs.SoFar.{items, declared, countsOf, Grows, Declares, ReadsLine, answer};
 use super::Declarations;
 use crate::fault::StatementFault;
 use crate::fault::StatementFromText;
@@ -115,7 +115,7 @@ impl<'a> Declarations<'a> {
 
     // The statements with their lines, in line order.
     pub fn list(&self) -> &[Declaration<'a>]
-        ensures { λ r. ⌜ map declaration (now r) ≡ declared (now (self .entry)) ⌝ }
+        ensures { λ r. ⌜ now r ≡ items (now (self .entry)) ⌝ }
     {
         self.list.as_slice()
     }
@@ -191,7 +191,7 @@ impl<'a> Declarations<'a> {
     // One declaration more, for which there is room.
     fn note(&mut self, line: usize, says: Statement<'a>)
         requires { ⌜ tooMany (declared (now self) ++ record { line = line; says = said says } ∷ []) ≡ false ⌝ }
-        ensures { λ _. ⌜ declared (now (self .exit)) ≡ declared (now (self .entry)) ++ record { line = line; says = said (says .entry) } ∷ [] ⌝ }
+        ensures { λ _. ⌜ Grows (now (self .entry)) line (says .entry) (now (self .exit)) ⌝ }
     {
         add_net(&mut self.nets, says);
         add_output(&mut self.outputs, says);
@@ -202,7 +202,7 @@ impl<'a> Declarations<'a> {
 
     // One declaration more, or the smallest of the refusals 7 to 9 that holds.
     fn declare(&mut self, line: usize, says: Statement<'a>) -> Result<(), StatementFault>
-        ensures { λ r. ⌜ Declares (now (self .entry)) line (said (says .entry)) r (now (self .exit)) ⌝ }
+        ensures { λ r. ⌜ Declares (now (self .entry)) line (says .entry) r (now (self .exit)) ⌝ }
     {
         if self.redefines(says) {
             return Err(StatementFault::DefinedBefore(line));
@@ -229,6 +229,7 @@ impl<'a> Declarations<'a> {
     // Reads a whole text behind the declarations so far, up to its end or to the first refusal.
     pub fn read(&mut self, text: &'a [u8]) -> Result<(), StatementFault>
         ensures reads { λ r. ⌜ Reads (now (text .entry)) (declared (now (self .entry))) (answer r) (declared (now (self .exit))) ⌝ }
+        ensures places { λ _. ⌜ (AllStand (now (text .entry)) (items (now (self .entry))) → AllStand (now (text .entry)) (items (now (self .exit)))) ⌝ }
         ensures one_statement { λ _. ⌜ One-statement ⌝ }
         ensures one_reading { λ _. ⌜ One-reading ⌝ }
     {

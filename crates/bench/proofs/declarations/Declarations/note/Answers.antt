@@ -45,4 +45,4 @@ ghost-self c =
     (omega (arith, d .room, c .push-reserved .ensures .capacity), (c .add-net .ensures .most ∙ d .netRoom, (c .add-output .ensures .most ∙ d .outputRoom, (names-follow netOf (declared d) es new (held (d .nets)) (held (c .add-net .last .nets)) grown (d .netsAre) (c .add-net .ensures .held), (names-follow outputOf (declared d) es new (held (d .outputs)) (held (c .add-output .last .outputs)) grown (d .outputsAre) (c .add-output .ensures .held), (count-follows inputOf (declared d) es new (d .inputs) (c .inputs-in .result) grown (d .inputsAre) (c .inputs-in .ensures), (count-follows pinsOf (declared d) es new (d .pins) (c .pins-in .result) grown (d .pinsAre) (c .pins-in .ensures), (ap tooMany grown ∙ c .pre, tt))))))))
 
 pub returns : need.returns
-returns c = ap (map declaration) (c .push-reserved .ensures .items) ∙ map-push declaration (vec-items (c .args .self .now .list)) _
+returns c = c .push-reserved .ensures .items
