@@ -1,2 +1,10 @@
 pub mod Kinds
 pub mod Refusals
+pub mod Bits
+pub mod Pairs
+pub mod Operations
+pub mod Meaning
+pub mod OperationLaws
+pub mod WordLaws
+pub mod SearchLaws
+pub mod OneLane

@@ -52,7 +52,7 @@ impl<'a> Names<'a> {
     pub fn add(&mut self, name: Name<'a>) -> Result<(), Full>
         ensures { λ r. ⌜ Adds (now (self .entry)) (name .entry .bytes .now) r (now (self .exit)) ⌝ }
     {
-        let number = self.names.len();
+        let number = self.len();
         if number >= self.most {
             return Err(Full);
         }

@@ -14,6 +14,16 @@ use Rattle.names.proofs.table.Names.add.Needs as need
 pub returns-then-number-self : need.returns-then-number-self
 returns-then-number-self c = (omega (arith, held-length (c .args .self .now), c .len-number .ensures, c .if-number-self .taken), refl)
 
+pub push-reserved-requires : need.push-reserved-requires
+push-reserved-requires c κs =
+    let t = c .args .self .now in
+    omega (arith, held-length t, c .len-number .ensures, c .if-number-self .left, t .links, t .paired)
+
+pub push-reserved-requires-2 : need.push-reserved-requires-2
+push-reserved-requires-2 c κs =
+    let t = c .args .self .now in
+    omega (arith, held-length t, c .len-number .ensures, c .if-number-self .left, t .room)
+
 pub ghost-self : need.ghost-self
 ghost-self c =
     let t = c .args .self .now in
@@ -21,7 +31,7 @@ ghost-self c =
     let linked = c .push-reserved .ensures in
     let size = held-length t in
     let held-more = ap (map bytesOf) (pushed .items) ∙ map-push bytesOf (vec-items (t .names)) (c .args .name) in
-    let number = c .len-number .ensures in
+    let number = c .len-number .ensures ∙ held-length t in
     let b = c .bucket-of-b .ensures in
     let items = vec-items (t .newest) in
     let inside : c .bucket-of-b .result < length items = omega (arith, b .within, t .newest .ok .0, t .buckets) in
