@@ -1,0 +1,4 @@
+pub mod Circuit
+pub mod Circles
+pub mod Listed
+pub mod Tables
