@@ -3,3 +3,4 @@ pub mod Meaning
 pub mod Once
 pub mod LineEnds
 pub mod Answered
+pub mod Properly

@@ -2,4 +2,5 @@ pub mod Lines
 pub mod Grammar
 pub mod Rules
 pub mod Reading
+pub mod Proper
 pub mod Scan
