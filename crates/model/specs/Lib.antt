@@ -8,3 +8,4 @@ pub mod OperationLaws
 pub mod WordLaws
 pub mod SearchLaws
 pub mod OneLane
+pub mod ShutOut

@@ -3,7 +3,7 @@ ghost use mathlib.Core.List.{[], _∷_, _++_};
 ghost use Rattle.std.specs.Orderings.{Decides};
 ghost use Rattle.std.specs.Vec.{made};
 ghost use Prim.Native.Nat.{_+_, _-_, _<_, _≤_};
-ghost use Rattle.names.specs.Tables.{held};
+ghost use Rattle.names.specs.Tables.{LastPlace, held};
 ghost use lib.Dec.{leb, ltb};
 ghost use lib.ListN.{length};
 ghost use mathlib.Core.Bool.{false};
@@ -129,6 +129,13 @@ impl<'a> Declarations<'a> {
             outputs: self.outputs.len(),
             pins: self.pins,
         }
+    }
+
+    // The number of the net with a name.
+    pub fn find_net(&self, name: &[u8]) -> Option<usize>
+        ensures { λ r. ⌜ LastPlace (nets (declared (now (self .entry)))) (now (name .entry)) r ⌝ }
+    {
+        self.nets.find(name)
     }
 
     // Whether a statement defines a net that is defined before.

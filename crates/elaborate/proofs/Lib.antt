@@ -1,0 +1,12 @@
+pub mod Places
+pub mod Gathered
+pub mod Growth
+pub mod Tabled
+pub mod Cells
+pub mod LineValues
+pub mod Reading
+pub mod NetLines
+pub mod Accepted
+pub mod Refused
+pub mod Answer
+pub mod Example

@@ -1,0 +1,4 @@
+pub mod Elaborate
+pub mod Whole
+pub mod Values
+pub mod Tabled

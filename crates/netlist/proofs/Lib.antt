@@ -1,0 +1,3 @@
+mod Resolving
+mod LayOne
+mod LayAll

@@ -1,0 +1,3 @@
+pub mod Names
+pub mod Resolved
+pub mod Laid

@@ -1,0 +1,5 @@
+// Netlists that own their tables, and the loader that makes them from .bench text.
+pub mod fault;
+pub mod name;
+mod resolve;
+mod tables;

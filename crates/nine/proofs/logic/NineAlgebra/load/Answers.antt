@@ -1,0 +1,6 @@
+use borrow.Author.Needs.{needs}
+use Rattle.nine.proofs.NineValues.{same-number}
+use Rattle.nine.proofs.logic.NineAlgebra.load.Needs as need
+
+pub returns : need.returns
+returns c = search (needs, same-number)

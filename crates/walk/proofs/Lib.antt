@@ -1,0 +1,7 @@
+pub mod Marks
+pub mod Tables
+pub mod Walking
+pub mod Turns
+pub mod Circle
+pub mod Whole
+pub mod Listing
