@@ -1,3 +1,4 @@
 mod Resolving
 mod LayOne
 mod LayAll
+mod Refusing

@@ -1,3 +1,4 @@
 pub mod Names
 pub mod Resolved
 pub mod Laid
+pub mod Building

@@ -10,14 +10,18 @@ ghost use Rattle.grammar.specs.Rules.{nets, outputOf};
 ghost use Rattle.bench.specs.SoFar.{declared};
 ghost use Rattle.bench.specs.Statements.{said};
 ghost use Rattle.text.specs.Tokens.{namesLeft};
+ghost use Rattle.netlist.specs.Building.{OfText, ResolvesAll};
 ghost use Rattle.netlist.specs.Laid.{Fits, LaidIn, LaysOne, LaysOut, ListsOut};
 ghost use Rattle.netlist.specs.Resolved.{Resolves};
 ghost use Rattle.circuit.specs.declared.net.Net.the-variants.{Input, Gate};
+use crate::fault::LoadFault;
+use crate::fault::LoadFromAlloc;
 use crate::tables::Tables;
 use bench::declarations::Declarations;
 use bench::statement::Statement;
 use circuit::net::Net;
 use model::kind::Kind;
+use std::alloc::Global;
 use text::cursor::Cursor;
 
 // The numbers of the nets that a gate reads, behind those of the gates before it; false where a name is not defined.
@@ -141,4 +145,33 @@ fn list_outputs(declarations: &Declarations<'_>, outputs: &mut Vec<u16>) -> Opti
         }
     }
     None
+}
+
+// The tables of a netlist whose order is not known yet.
+#[derive(Drop)]
+pub struct Parts {
+    pub tables: Tables,
+    pub outputs: Vec<u16>,
+}
+
+// Names to numbers for all declarations of a text.
+pub(crate) fn resolve(
+    heap: Global,
+    declarations: &Declarations<'_>,
+) -> Result<Parts, LoadFault>
+    requires { ⌜ OfText (declared (now declarations)) ⌝ }
+    ensures { λ r. ⌜ ResolvesAll (declared (now (declarations .entry))) r ⌝ }
+{
+    let mut tables = Tables::new(heap)?;
+    let mut outputs = Vec::with_capacity(heap, 64)?;
+    if let Some(line) = lay_out(declarations, &mut tables) {
+        return Err(LoadFault::UndefinedOperand(line));
+    }
+    if let Some(line) = list_outputs(declarations, &mut outputs) {
+        return Err(LoadFault::UndefinedOutput(line));
+    }
+    if tables.inputs == 0 || outputs.len() == 0 {
+        return Err(LoadFault::NoPort);
+    }
+    Ok(Parts { tables, outputs })
 }
