@@ -13,7 +13,7 @@ use Rattle.model.specs.declared.kind.Kind.the-variants.{And, Nand, Or, Nor, Xor
 use Rattle.model.specs.Kinds.{word}
 use Rattle.grammar.specs.Rules.{Among}
 use Rattle.elaborate.specs.Elaborate.{placeOf, kindOf}
-use Rattle.elaborate.specs.Values.{Distinct}
+use Rattle.grammar.specs.Proper.{Distinct}
 
 -- a name that stands in the list stands at its place
 pub at-place : (ns : List (List ℕ)) (n : List ℕ) → placeOf ns n < length ns → getD ns (placeOf ns n) [] ≡ n

@@ -12,7 +12,8 @@ use Rattle.std.proofs.shelf.Tests.{cases-lt}
 use Rattle.grammar.specs.Grammar.{Statement, input, output, gate}
 use Rattle.grammar.specs.Rules.{Declaration, Among, UnknownKind, Redefines, netOf, nets, unknown-kind, defined-before}
 use Rattle.grammar.specs.Reading.{Accepted, Answer, ReadsFrom, at-end, silent, declares, refuses, Reads, too-long, in-lines}
-use Rattle.elaborate.specs.Values.{Distinct}
+use Rattle.grammar.specs.Proper.{Distinct}
+use Rattle.grammar.proofs.Properly.{distinct-push}
 use Rattle.elaborate.proofs.Gathered.{nets-push}
 
 -- the numbers of the lines rise
@@ -33,18 +34,6 @@ none-yet k = record {
   rising = λ i j d e h g. absurd (omega arith);
   before = λ d (i, h, e). absurd (omega arith);
 }
-
-pub distinct-push : (ns : List (List ℕ)) (n : List ℕ) → Distinct ns → (Among ns n → ⊥) → Distinct (ns ++ n ∷ [])
-distinct-push ns n d new i j h g e = elim (cases-lt i (length ns)) [
-  | inl a ↦ elim (cases-lt j (length ns)) [
-    | inl b ↦ d i j a b (sym (getD-append-left ns (n ∷ []) [] i a) ∙ e ∙ getD-append-left ns (n ∷ []) [] j b)
-    | inr b ↦ absurd (new (i, a, sym (getD-append-left ns (n ∷ []) [] i a) ∙ e ∙ getD-push ns n [] j (omega (arith, length-push ns n))))
-  ]
-  | inr a ↦ elim (cases-lt j (length ns)) [
-    | inl b ↦ absurd (new (j, b, sym (getD-append-left ns (n ∷ []) [] j b) ∙ sym e ∙ getD-push ns n [] i (omega (arith, length-push ns n))))
-    | inr b ↦ omega (arith, length-push ns n)
-  ]
-]
 
 once-more : (ds : List Declaration) (s : Statement) → Distinct (nets ds) → (Redefines ds s → ⊥) → Distinct (nets ds ++ netOf s)
 once-more ds (input n) d new = distinct-push (nets ds) n d new

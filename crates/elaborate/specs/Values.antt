@@ -9,6 +9,7 @@ use Rattle.model.specs.declared.kind.Kind.{Kind}
 use Rattle.model.specs.Kinds.{word}
 use Rattle.model.specs.Bits.{bit}
 use Rattle.grammar.specs.Grammar.{gate}
+use Rattle.grammar.specs.Proper.{Distinct}
 use Rattle.grammar.specs.Rules.{Declaration, Among, UnknownKind, nets, inputs, pins}
 use Rattle.circuit.specs.Circuit.{combined, plain, good}
 use Rattle.circuit.specs.Circles.{Ordered}
@@ -26,10 +27,6 @@ valueNamed ds v n = good (netlistOf ds) v (placeOf (nets ds) n)
 -- For every vector, each name has the value that its line says, and only that.
 abbrev pub NamesHaveTheirLinesValues : List Declaration → Type 0
 NamesHaveTheirLinesValues ds = (v : ℕ) → LinesHold ds v (valueNamed ds v) × ((val : List ℕ → Bool) → LinesHold ds v val → (n : List ℕ) → Among (nets ds) n → val n ≡ valueNamed ds v n)
-
--- no name stands twice
-abbrev pub Distinct : List (List ℕ) → Type 0
-Distinct ns = (i j : ℕ) → i < length ns → j < length ns → getD ns i [] ≡ getD ns j [] → i ≡ j
 
 -- what holds of declarations that no rule refuses
 pub record WellDeclared (ds : List Declaration) : Type 0 where

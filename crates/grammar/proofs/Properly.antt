@@ -19,7 +19,7 @@ use Rattle.model.specs.Kinds.{word, takes}
 use Rattle.grammar.specs.Grammar.{Statement, input, output, gate, Spells}
 use Rattle.grammar.specs.Rules.{Declaration, nets, netOf, gathered, Among, LongName, UnknownKind, OperandCount, Redefines, long-name, unknown-kind, operand-count, defined-before}
 use Rattle.grammar.specs.Reading.{Accepted, Answer, accepted, refused, ReadsFrom, at-end, silent, declares, refuses, Reads, too-long, in-lines}
-use Rattle.grammar.specs.Proper.{ProperStatement, AllProper, Distinct, Proper, Rising}
+use Rattle.grammar.specs.Proper.{ProperStatement, AllProper, Distinct, Proper}
 
 -- whether a word names a kind is decided
 pub is-kind : (w : List ℕ) → ((kind : Kind) × (w ≡ word kind)) ⊎ ((kind : Kind) → w ≡ word kind → ⊥)
@@ -72,7 +72,7 @@ all-more : (ds : List Declaration) (d : Declaration) → AllProper ds → Proper
 all-more [] d h g = (g, tt)
 all-more (e ∷ ds) d h g = (h .0, all-more ds d (h .1) g)
 
-distinct-push : (ns : List (List ℕ)) (n : List ℕ) → Distinct ns → (Among ns n → ⊥) → Distinct (ns ++ n ∷ [])
+pub distinct-push : (ns : List (List ℕ)) (n : List ℕ) → Distinct ns → (Among ns n → ⊥) → Distinct (ns ++ n ∷ [])
 distinct-push ns n h f i j p q e = ⊎-elim (λ a. ⊎-elim (λ b. h i j a b (sym (left i a) ∙ e ∙ left j b)) (λ b. absurd (f (i, a, sym (left i a) ∙ e ∙ right j b q))) (cases-lt j (length ns))) (λ a. ⊎-elim (λ b. absurd (f (j, b, sym (left j b) ∙ sym e ∙ right i a p))) (λ b. omega (arith, a, b, p, q, length-push ns n)) (cases-lt j (length ns))) (cases-lt i (length ns))
   where
     left : (k : ℕ) → k < length ns → getD (ns ++ n ∷ []) k [] ≡ getD ns k []
@@ -112,22 +112,3 @@ nothing-proper = record { all = tt; distinct = λ i j p q e. absurd (omega (arit
 pub reads-proper : {text : List ℕ} {ds : List Declaration} {a : Answer} {es : List Declaration} → Reads text ds a es → Proper ds → Proper es
 reads-proper (too-long q) h = h
 reads-proper (in-lines a es q r) h = proper-from r h
-
-rising-later : (k m : ℕ) (ds : List Declaration) → Rising k ds m → Rising k ds (suc m)
-rising-later k m [] h = omega (arith, h)
-rising-later k m (d ∷ ds) h = (h .0, rising-later (suc (d .line)) m ds (h .1))
-
-rising-more : (k m : ℕ) (ds : List Declaration) (s : Statement) → Rising k ds m → Rising k (ds ++ record { line = m; says = s } ∷ []) (suc m)
-rising-more k m [] s h = (h, omega arith)
-rising-more k m (d ∷ ds) s h = (h .0, rising-more (suc (d .line)) m ds s (h .1))
-
-rising-from : {k : ℕ} {ds : List Declaration} {ls : List (List ℕ)} {a : Answer} {es : List Declaration} → ReadsFrom k ds ls a es → Rising 1 ds k → (m : ℕ) × Rising 1 es m
-rising-from (at-end k ds) h = (k, h)
-rising-from (silent k ds l ls a es q r) h = rising-from r (rising-later 1 k ds h)
-rising-from (declares k ds l ls s a es q r) h = rising-from r (rising-more 1 k ds s h)
-rising-from (refuses k ds l ls n q) h = (k, h)
-
--- the declarations of a text stand in the order of its lines
-pub reads-rising : {text : List ℕ} {a : Answer} {es : List Declaration} → Reads text [] a es → (m : ℕ) × Rising 1 es m
-reads-rising (too-long q) = (1, omega arith)
-reads-rising (in-lines a es q r) = rising-from r (omega arith)

@@ -2,7 +2,7 @@
 use mathlib.Core.Path.{_≡_}
 use mathlib.Core.Bool.{true}
 use mathlib.Core.List.{List, [], _∷_}
-use Prim.Native.Nat.{ℕ, suc, _<_, _≤_}
+use Prim.Native.Nat.{ℕ, _<_, _≤_}
 use lib.ListN.{length, getD}
 use Rattle.model.specs.declared.kind.Kind.{Kind}
 use Rattle.model.specs.Kinds.{word, takes}
@@ -26,8 +26,3 @@ Distinct ns = (i j : ℕ) → i < length ns → j < length ns → getD ns i [] �
 pub record Proper (ds : List Declaration) : Type 0 where
   pub all : AllProper ds
   pub distinct : Distinct (nets ds)
-
--- the lines rise from line k on, and end before line m
-abbrev pub Rising : ℕ → List Declaration → ℕ → Type 0
-Rising k [] m = k ≤ m
-Rising k (d ∷ ds) m = (k ≤ d .line) × Rising (suc (d .line)) ds m

@@ -1,10 +1,10 @@
 -- For the crates above: an order as the three facts that a type can keep, and back to an ordered netlist.
-use mathlib.Core.Path.{_≡_, sym, subst}
+use mathlib.Core.Path.{_≡_}
 use mathlib.Core.List.{List}
 use Prim.Native.Nat.{ℕ, _<_}
 use native.Mathlib.Omega.{arith}
 use lib.ListN.{length}
-use Rattle.circuit.specs.Circuit.{Cell, Netlist, IsNet, IsOutput, ReadsIn, cellIn, input}
+use Rattle.circuit.specs.Circuit.{Cell, Netlist, IsNet, IsOutput, cellIn, input}
 use Rattle.circuit.specs.Circles.{Sorted, Ordered}
 use Rattle.circuit.specs.Listed.{Follows, Complete}
 use Rattle.walk.proofs.Circle.{reads-behind}

@@ -1,17 +1,17 @@
 -- An order, and the tests that say so: each net may follow those before it, and every net is listed.
 use mathlib.Core.Path.{_≡_, refl, sym, ap, subst, _∙_}
-use mathlib.Core.Bool.{Bool, true, false, not, _&&_, _||_, cond}
+use mathlib.Core.Bool.{true, false, not, _&&_, cond}
 use mathlib.Core.List.{List, [], _∷_}
-use mathlib.Core.Logic.{_⊎_, inl, inr, ⊎-elim}
-use Prim.Native.Nat.{ℕ, zero, suc, _+_, _-_, _<_, _≤_}
+use mathlib.Core.Logic.{⊎-elim}
+use Prim.Native.Nat.{ℕ, zero, suc, _<_, _≤_}
 use native.Mathlib.Omega.{arith}
 use lib.Dec.{eqb, ltb}
 use lib.ListN.{length, getD, take}
 use Rattle.std.proofs.shelf.Lists.{getD-take, length-take-le}
-use Rattle.std.proofs.shelf.Tests.{cases-eq, cases-lt, cases-bool, lt-ltb, ltb-true, eq-eqb, ne-eqb, cond-true, cond-false, eqb-true, eqb-false, and-parts, and-from, or-cases, or-left, or-right, not-true, not-from-false, both-ways}
-use Rattle.circuit.specs.Circuit.{Cell, operandsAt, ReadsIn}
+use Rattle.std.proofs.shelf.Tests.{cases-eq, cases-lt, cases-bool, lt-ltb, ltb-true, eq-eqb, ne-eqb, cond-true, cond-false, eqb-true, and-parts, and-from, or-cases, or-left, or-right, not-true, not-from-false, both-ways}
+use Rattle.circuit.specs.Circuit.{Cell, operandsAt}
 use Rattle.circuit.specs.Circles.{Sorted}
-use Rattle.circuit.specs.Listed.{listedIn, allListed, mayFollow, Follows, Complete}
+use Rattle.circuit.specs.Listed.{listedIn, allListed, Follows, Complete}
 
 at-listed : (xs : List ℕ) (k p : ℕ) → p < length xs → getD xs p 0 ≡ k → listedIn k xs ≡ true
 at-listed [] k p lt e = absurd (omega arith)

@@ -1,18 +1,18 @@
 -- Marks and lists, one change at a time.
-use mathlib.Core.Path.{_≡_, refl, sym, ap, subst, _∙_}
-use mathlib.Core.Bool.{Bool, true, false, cond}
+use mathlib.Core.Path.{_≡_, sym, ap, _∙_}
+use mathlib.Core.Bool.{Bool, cond}
 use mathlib.Core.List.{List, [], _∷_, _++_}
 use mathlib.Core.Logic.{_⊎_, inl, inr, ⊎-elim}
-use Prim.Native.Nat.{ℕ, zero, suc, _+_, _<_, _≤_}
+use Prim.Native.Nat.{ℕ, _+_, _<_}
 use native.Mathlib.Omega.{arith}
-use lib.ListN.{length, getD, set, take}
+use lib.ListN.{length, getD, set}
 use Rattle.std.specs.shelf.Lists.{countBy}
-use Rattle.std.proofs.shelf.Lists.{length-set, length-push, getD-set-same, getD-set-other, getD-append-left, getD-at, getD-past}
+use Rattle.std.proofs.shelf.Lists.{length-push, getD-set-same, getD-set-other, getD-append-left, getD-at, getD-past}
 use Rattle.std.proofs.shelf.Sums.{sumBy-set}
-use Rattle.std.proofs.shelf.Tests.{cases-eq, cases-lt}
+use Rattle.std.proofs.shelf.Tests.{cases-lt}
 use Rattle.walk.specs.declared.mark.Mark.{Mark}
 use Rattle.walk.specs.declared.mark.Mark.the-variants.{New, Open, Done}
-use Rattle.walk.specs.Walks.{markAt, isOpen, isDone}
+use Rattle.walk.specs.Walks.{markAt}
 
 pub new-not-open : (n : ℕ) → New ≡ Open n → ⊥
 new-not-open n e = let z : _≡_ {A = ℕ} 0 1 = cc in omega arith

@@ -1,13 +1,11 @@
 -- What the code's tables say of the model's cells.
-use mathlib.Core.Path.{_≡_, refl, sym, ap, subst, _∙_}
-use mathlib.Core.List.{List, [], map}
-use mathlib.Core.Logic.{⊎-elim}
-use Prim.Native.Nat.{ℕ, _+_, _<_, _≤_, min}
+use mathlib.Core.Path.{_≡_, sym, ap, subst, _∙_}
+use mathlib.Core.List.{List}
+use Prim.Native.Nat.{ℕ, _<_}
 use native.Mathlib.Omega.{arith}
-use lib.ListN.{length, getD, take, drop}
+use lib.ListN.{length, getD, drop}
 use Rattle.std.proofs.shelf.Lists.{getD-map, length-map, length-take, getD-take, getD-drop}
 use Rattle.circuit.specs.Circuit.{operandsOf, operandsAt, input}
-use Rattle.walk.proofs.Circle.{reader-net}
 use Rattle.circuit.specs.declared.net.Net.{Net}
 use Rattle.circuit.specs.declared.net.Net.the-variants.{Input, Gate}
 use Rattle.circuit.specs.Tables.{cellOf, cellsOf, Formed, AllFormed}

@@ -1,16 +1,16 @@
 -- A walk's steps: it enters a net, passes an operand, leaves a net; and what it tells at the end.
 use mathlib.Core.Path.{_≡_, refl, sym, ap, subst, _∙_}
-use mathlib.Core.Bool.{Bool, true, false, cond}
+use mathlib.Core.Bool.{cond}
 use mathlib.Core.List.{List, [], _∷_, _++_}
-use mathlib.Core.Logic.{_⊎_, inl, inr, ⊎-elim}
-use Prim.Native.Nat.{ℕ, zero, suc, _+_, _-_, _<_, _≤_}
+use mathlib.Core.Logic.{⊎-elim}
+use Prim.Native.Nat.{ℕ, zero, suc, _+_, _<_, _≤_}
 use native.Mathlib.Omega.{arith}
 use lib.Dec.{eqb}
 use lib.ListN.{length, getD, set, take}
 use Rattle.std.specs.shelf.Lists.{countBy}
 use Rattle.std.proofs.shelf.Lists.{length-set, length-push, getD-append-left, getD-at, take-all}
 use Rattle.std.proofs.shelf.Sums.{countBy-more-yes, countBy-le-length}
-use Rattle.std.proofs.shelf.Tests.{cases-eq, cases-lt, eq-eqb, ne-eqb, cond-true, cond-false}
+use Rattle.std.proofs.shelf.Tests.{cases-eq, eq-eqb, ne-eqb, cond-true, cond-false}
 use Rattle.circuit.specs.Circuit.{Cell, operandsAt, ReadsIn}
 use Rattle.circuit.specs.Circles.{LeadsBack, step, further, DependsOnCircle, Sorted}
 use Rattle.walk.specs.declared.mark.Mark.{Mark}

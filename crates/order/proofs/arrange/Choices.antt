@@ -1,7 +1,6 @@
 use mathlib.Core.Path.{_≡_}
 use mathlib.Core.List.{[]}
 use Prim.Native.Nat.{ℕ, _<_}
-use lib.ListN.{length}
 use Rattle.std.specs.Of.Vec.{vec-items, vec-cap}
 use Rattle.walk.specs.declared.mark.Mark.the-variants.{New, Done}
 use Rattle.circuit.specs.Tables.{cellsOf}

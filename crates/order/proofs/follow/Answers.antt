@@ -1,10 +1,9 @@
-use mathlib.Core.Path.{_≡_, refl, sym, ap, subst, _∙_}
-use Prim.Native.Nat.{ℕ, _+_, _-_, _<_, _≤_}
+use mathlib.Core.Path.{_≡_, refl, ap, _∙_}
+use Prim.Native.Nat.{_-_, _<_}
 use native.Mathlib.Omega.{arith}
-use lib.ListN.{length, set}
+use lib.ListN.{length}
 use Rattle.std.proofs.shelf.Lists.{length-set}
-use Rattle.cells.specs.Stacks.{held, room}
-use Rattle.walk.specs.declared.mark.Mark.the-variants.{New, Open, Done}
+use Rattle.walk.specs.declared.mark.Mark.the-variants.{Open, Done}
 use Rattle.walk.proofs.Turns.{opens, opening, lighter, is-open, is-marked, order-lacks, path-lacks, ends, leaves, looks, passes, deepens, meets}
 use Rattle.walk.proofs.Tables.{cells-size}
 use Rattle.order.proofs.Path.{pushes, lies}
