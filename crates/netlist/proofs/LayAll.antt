@@ -23,7 +23,9 @@ use Rattle.grammar.specs.Proper.{ProperStatement, AllProper, Proper}
 use Rattle.grammar.specs.Rules.{Declaration, gathered, nets, inputs, pins, outputs, netOf, inputOf, outputOf, pinsOf, tooMany}
 use Rattle.elaborate.specs.Tabled.{Tabled}
 use Rattle.elaborate.proofs.Gathered.{gathered-append, gathered-push}
+use Rattle.elaborate.specs.Whole.{netLines}
 use Rattle.elaborate.proofs.Growth.{length-cells}
+use Rattle.elaborate.proofs.NetLines.{line-at}
 use Rattle.netlist.specs.declared.tables.Tables.{Tables}
 use Rattle.netlist.specs.Resolved.{Covered, Uncovered, Resolves}
 use Rattle.netlist.specs.Laid.{LaidIn, LaysOne, FirstUndefined, Fits}
@@ -123,3 +125,17 @@ module _ (xs : List code.Declaration) (ds : List Declaration) (e : ds ≡ map de
       let part = part-of outputOf ds i (declaration (getD xs i b)) (omega (arith, h, ap length e, length-map xs declaration)) in
       let here = ap (λ (x : Declaration). length (outputOf (x .says))) (ap (λ (es : List Declaration). getD es i (declaration (getD xs i b))) e ∙ stands-at xs i b h) in
       omega (arith, part, here, few, ap length e′, length-map (outputs (take i ds)) (placeOf names))
+
+  -- the nets up to the next declaration, and the line of the net that it defines
+  pub nets-next : length (nets (take (i + 1) ds)) ≡ length (nets (take i ds)) + length (netOf (said (getD xs i b .says)))
+  nets-next =
+      ap (λ (es : List Declaration). length (nets es)) grown ∙ ap length (gathered-push netOf (take i ds) (declaration (getD xs i b))) ∙ length-append (nets (take i ds)) (netOf (said (getD xs i b .says)))
+
+  pub line-next : (k : ℕ) → k ≡ length (nets (take i ds)) → 0 < length (netOf (said (getD xs i b .says))) → getD xs i b .line ≡ getD (netLines ds) k 0
+  line-next k q some =
+      sym (ap (λ (x : ℕ). getD (netLines ds) x 0) q ∙ line-at ds i (declaration (getD xs i b)) (omega (arith, h, ap length e, length-map xs declaration)) (ap (λ (es : List Declaration). getD es i (declaration (getD xs i b))) e ∙ stands-at xs i b h) some)
+
+pub one-net : (s : Statement) → length (netOf s) ≤ 1
+one-net (input n) = omega arith
+one-net (output n) = omega arith
+one-net (gate n k os) = omega arith

@@ -36,12 +36,15 @@ no-names names n (i, l, e) = absurd (omega (arith, l))
 
 module _ (names : List (List ℕ)) (t u : Tables) where
   input-said : (n : List ℕ) → vec-items (u .nets) ≡ vec-items (t .nets) ++ Input (t .inputs) ∷ [] → u .pins ≡ t .pins → u .inputs ≡ t .inputs + 1 → LaysOne names (input n) t true u
-  input-said n e p i = (no-names names, λ ds line h.
-      let d : Declaration = record { line = line; says = input n } in
-      let Q : List Net → List ℕ → Type 0 = λ ns ps. Tabled names (ds ++ d ∷ []) ns ps in
-      let laid = tabled-input names ds d (vec-items (t .nets)) (vec-items (t .pins)) (h .0) n refl in
-      let table : vec-items (u .nets) ≡ vec-items (t .nets) ++ Input (length (inputs ds)) ∷ [] = e ∙ ap (λ (k : ℕ). vec-items (t .nets) ++ Input k ∷ []) (h .1) in
-      (subst (λ (ns : List Net). Q ns (vec-items (u .pins))) (sym table) (subst (Q (vec-items (t .nets) ++ Input (length (inputs ds)) ∷ [])) (sym (ap vec-items p)) laid), omega (arith, i, h .1, inputs-push ds line (input n))))
+  input-said n e p i = (
+    no-names names,
+    λ ds line h.
+        let d : Declaration = record { line = line; says = input n } in
+        let Q : List Net → List ℕ → Type 0 = λ ns ps. Tabled names (ds ++ d ∷ []) ns ps in
+        let laid = tabled-input names ds d (vec-items (t .nets)) (vec-items (t .pins)) (h .0) n refl in
+        let table : vec-items (u .nets) ≡ vec-items (t .nets) ++ Input (length (inputs ds)) ∷ [] = e ∙ ap (λ (k : ℕ). vec-items (t .nets) ++ Input k ∷ []) (h .1) in
+        (subst (λ (ns : List Net). Q ns (vec-items (u .pins))) (sym table) (subst (Q (vec-items (t .nets) ++ Input (length (inputs ds)) ∷ [])) (sym (ap vec-items p)) laid), omega (arith, i, h .1, inputs-push ds line (input n))),
+  )
 
   pub lays-input : (s : code.Statement) (n : Name) → s ≡ statement.Input n → vec-items (u .nets) ≡ vec-items (t .nets) ++ Input (t .inputs) ∷ [] → u .pins ≡ t .pins → u .inputs ≡ t .inputs + 1 → LaysOne names (said s) t true u
   lays-input s n q e p i =
@@ -49,12 +52,15 @@ module _ (names : List (List ℕ)) (t u : Tables) where
 
   gate-said : (n : List ℕ) (k : Kind) (os : List (List ℕ)) (r : Bool) → Resolves names os (vec-items (t .pins)) r (vec-items (u .pins)) → When r (vec-items (u .nets) ≡ vec-items (t .nets) ++ Gate k (vec-len (t .pins)) (length os) ∷ []) (Unit {0}) → u .inputs ≡ t .inputs → length os ≤ 16 → LaysOne names (gate n (word k) os) t r u
   gate-said n k os false h e i few = h
-  gate-said n k os true h e i few = (h .0, λ ds line g.
-      let d : Declaration = record { line = line; says = gate n (word k) os } in
-      let Q : List Net → List ℕ → Type 0 = λ ns ps. Tabled names (ds ++ d ∷ []) ns ps in
-      let laid = tabled-gate names ds d (vec-items (t .nets)) (vec-items (t .pins)) (g .0) n k os refl few (h .0) in
-      let table : vec-items (u .nets) ≡ vec-items (t .nets) ++ Gate k (length (vec-items (t .pins))) (length os) ∷ [] = e ∙ ap (λ (x : ℕ). vec-items (t .nets) ++ Gate k x (length os) ∷ []) (t .pins .ok .0) in
-      (subst (λ (ns : List Net). Q ns (vec-items (u .pins))) (sym table) (subst (Q (vec-items (t .nets) ++ Gate k (length (vec-items (t .pins))) (length os) ∷ [])) (sym (h .1)) laid), omega (arith, i, g .1, inputs-push ds line (gate n (word k) os))))
+  gate-said n k os true h e i few = (
+    h .0,
+    λ ds line g.
+        let d : Declaration = record { line = line; says = gate n (word k) os } in
+        let Q : List Net → List ℕ → Type 0 = λ ns ps. Tabled names (ds ++ d ∷ []) ns ps in
+        let laid = tabled-gate names ds d (vec-items (t .nets)) (vec-items (t .pins)) (g .0) n k os refl few (h .0) in
+        let table : vec-items (u .nets) ≡ vec-items (t .nets) ++ Gate k (length (vec-items (t .pins))) (length os) ∷ [] = e ∙ ap (λ (x : ℕ). vec-items (t .nets) ++ Gate k x (length os) ∷ []) (t .pins .ok .0) in
+        (subst (λ (ns : List Net). Q ns (vec-items (u .pins))) (sym table) (subst (Q (vec-items (t .nets) ++ Gate k (length (vec-items (t .pins))) (length os) ∷ [])) (sym (h .1)) laid), omega (arith, i, g .1, inputs-push ds line (gate n (word k) os))),
+  )
 
   pub lays-gate : (s : code.Statement) (n : Name) (k : Kind) (c : Cursor) (r : Bool) → s ≡ statement.Gate n k c → Resolves names (namesLeft c) (vec-items (t .pins)) r (vec-items (u .pins)) → When r (vec-items (u .nets) ≡ vec-items (t .nets) ++ Gate k (vec-len (t .pins)) (length (namesLeft c)) ∷ []) (Unit {0}) → u .inputs ≡ t .inputs → length (namesLeft c) ≤ 16 → LaysOne names (said s) t r u
   lays-gate s n k c r q h e i few =

@@ -2,3 +2,4 @@ mod Resolving
 mod LayOne
 mod LayAll
 mod Refusing
+mod Ordering

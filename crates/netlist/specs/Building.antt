@@ -7,8 +7,11 @@ use Rattle.std.specs.declared.result.Result.{Result}
 use Rattle.std.specs.declared.result.Result.the-variants.{Ok, Err}
 use Rattle.grammar.specs.Rules.{Declaration, nets, inputs, outputs, pins}
 use Rattle.grammar.specs.Reading.{Reads, accepted}
-use Rattle.elaborate.specs.Elaborate.{placeOf}
-use Rattle.elaborate.specs.Whole.{RefusedWhole}
+use Rattle.std.specs.declared.vec.Vec.{Vec}
+use Rattle.std.specs.declared.alloc.Global.{Global}
+use Rattle.circuit.specs.Circles.{Sorted}
+use Rattle.elaborate.specs.Elaborate.{placeOf, cellsOf}
+use Rattle.elaborate.specs.Whole.{RefusedWhole, AcceptedWhole}
 use Rattle.netlist.specs.declared.fault.LoadFault.{LoadFault}
 use Rattle.netlist.specs.declared.fault.LoadFault.the-variants as fault
 use Rattle.netlist.specs.declared.resolve.Parts.{Parts}
@@ -38,3 +41,14 @@ ResolvesAll ds (Err (fault.UndefinedOperand line)) = RefusedWhole ds 10 line
 ResolvesAll ds (Err (fault.UndefinedOutput line)) = RefusedWhole ds 11 line
 ResolvesAll ds (Err fault.NoPort) = RefusedWhole ds 12 0
 ResolvesAll ds (Err (fault.Circle line)) = ⊥
+
+-- an order of all nets where no rule is broken; or refusal 13, or want of memory
+abbrev pub OrdersAll : List Declaration → Result (Vec ℕ Global) LoadFault → Type 0
+OrdersAll ds (Ok order) = Sorted (cellsOf ds) (vec-items order) × AcceptedWhole ds
+OrdersAll ds (Err fault.Memory) = Unit {0}
+OrdersAll ds (Err fault.FewCells) = ⊥
+OrdersAll ds (Err (fault.Statement f)) = ⊥
+OrdersAll ds (Err (fault.UndefinedOperand line)) = ⊥
+OrdersAll ds (Err (fault.UndefinedOutput line)) = ⊥
+OrdersAll ds (Err fault.NoPort) = ⊥
+OrdersAll ds (Err (fault.Circle line)) = RefusedWhole ds 13 line

@@ -155,10 +155,7 @@ pub struct Parts {
 }
 
 // Names to numbers for all declarations of a text.
-pub(crate) fn resolve(
-    heap: Global,
-    declarations: &Declarations<'_>,
-) -> Result<Parts, LoadFault>
+pub(crate) fn resolve(heap: Global, declarations: &Declarations<'_>) -> Result<Parts, LoadFault>
     requires { ⌜ OfText (declared (now declarations)) ⌝ }
     ensures { λ r. ⌜ ResolvesAll (declared (now (declarations .entry))) r ⌝ }
 {
