@@ -135,6 +135,21 @@ module _ (xs : List code.Declaration) (ds : List Declaration) (e : ds ≡ map de
   line-next k q some =
       sym (ap (λ (x : ℕ). getD (netLines ds) x 0) q ∙ line-at ds i (declaration (getD xs i b)) (omega (arith, h, ap length e, length-map xs declaration)) (ap (λ (es : List Declaration). getD es i (declaration (getD xs i b))) e ∙ stands-at xs i b h) some)
 
+  pub names-next : nets (take (i + 1) ds) ≡ nets (take i ds) ++ netOf (said (getD xs i b .says))
+  names-next = ap nets grown ∙ gathered-push netOf (take i ds) (declaration (getD xs i b))
+
+  stands : getD ds i (declaration (getD xs i b)) ≡ declaration (getD xs i b)
+  stands = ap (λ (es : List Declaration). getD es i (declaration (getD xs i b))) e ∙ stands-at xs i b h
+
+  pub proper-next : AllProper ds → ProperStatement (said (getD xs i b .says))
+  proper-next a =
+      let P : Declaration → Type 0 = λ x. ProperStatement (x .says) in
+      subst P stands (proper-at ds i (declaration (getD xs i b)) (omega (arith, h, ap length e, length-map xs declaration)) a)
+
+  pub names-room : length (nets ds) ≤ 2048 → length (nets (take i ds)) + length (netOf (said (getD xs i b .says))) ≤ 2048
+  names-room few =
+      omega (arith, part-of netOf ds i (declaration (getD xs i b)) (omega (arith, h, ap length e, length-map xs declaration)), ap (λ (x : Declaration). length (netOf (x .says))) stands, few)
+
 pub one-net : (s : Statement) → length (netOf s) ≤ 1
 one-net (input n) = omega arith
 one-net (output n) = omega arith

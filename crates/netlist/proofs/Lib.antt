@@ -3,3 +3,4 @@ mod LayOne
 mod LayAll
 mod Refusing
 mod Ordering
+mod Making

@@ -9,8 +9,8 @@ use Rattle.grammar.specs.Rules.{Declaration, nets, inputs, outputs, pins}
 use Rattle.grammar.specs.Reading.{Reads, accepted}
 use Rattle.std.specs.declared.vec.Vec.{Vec}
 use Rattle.std.specs.declared.alloc.Global.{Global}
-use Rattle.circuit.specs.Circles.{Sorted}
-use Rattle.elaborate.specs.Elaborate.{placeOf, cellsOf}
+use Rattle.circuit.specs.Circles.{Sorted, Ordered}
+use Rattle.elaborate.specs.Elaborate.{placeOf, cellsOf, netlistOf}
 use Rattle.elaborate.specs.Whole.{RefusedWhole, AcceptedWhole}
 use Rattle.netlist.specs.declared.fault.LoadFault.{LoadFault}
 use Rattle.netlist.specs.declared.fault.LoadFault.the-variants as fault
@@ -44,7 +44,7 @@ ResolvesAll ds (Err (fault.Circle line)) = ⊥
 
 -- an order of all nets where no rule is broken; or refusal 13, or want of memory
 abbrev pub OrdersAll : List Declaration → Result (Vec ℕ Global) LoadFault → Type 0
-OrdersAll ds (Ok order) = Sorted (cellsOf ds) (vec-items order) × AcceptedWhole ds
+OrdersAll ds (Ok order) = Sorted (cellsOf ds) (vec-items order) × AcceptedWhole ds × Ordered (netlistOf ds)
 OrdersAll ds (Err fault.Memory) = Unit {0}
 OrdersAll ds (Err fault.FewCells) = ⊥
 OrdersAll ds (Err (fault.Statement f)) = ⊥

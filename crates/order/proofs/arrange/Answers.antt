@@ -25,7 +25,7 @@ loop-k-holds c =
 pub follow-requires : need.follow-requires
 follow-requires c κs = record {
   formed = c .pre .formed;
-  isNet = c .loop-k-test .taken;
+  isNet = omega arith;
   new = c .in-New .is;
   room = omega (arith, c .pre .room, c .loop-k .kept .room);
   capacity = omega (arith, c .pre .capacity, c .loop-k .inv .2);

@@ -52,7 +52,7 @@ pub operand-read-requires : need.operand-read-requires
 operand-read-requires c κs = record {
   net = c .walk .inv .3;
   formed = c .pre .formed;
-  place = looks (c .walk .inv .0) (c .left-at-left .ensures) (λ none. omega arith);
+  place = omega (arith, looks (c .walk .inv .0) (c .left-at-left .ensures) (λ none. omega arith));
 }
 
 pub unwrap-requires : need.unwrap-requires

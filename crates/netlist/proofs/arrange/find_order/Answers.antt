@@ -11,6 +11,7 @@ use Rattle.circuit.specs.Circuit.{Cell}
 use Rattle.circuit.specs.Circles.{Sorted, CircleFree, FirstDependent}
 use Rattle.elaborate.specs.Elaborate.{cellsOf}
 use Rattle.elaborate.specs.Whole.{netLines}
+use Rattle.elaborate.proofs.Accepted.{sorted-ordered}
 use Rattle.elaborate.proofs.Growth.{length-cells}
 use Rattle.netlist.proofs.LayAll.{within-limits}
 use Rattle.netlist.proofs.Ordering.{tables-size, tables-formed, tables-cells, accepted-all, refused-first}
@@ -46,7 +47,7 @@ returns-in-None c =
     let cells = tables-cells (declared d) (c .args .parts .now .tables) (c .as-slice .result .now) (c .as-slice-2 .result .now) (c .as-slice .ensures .value) (c .as-slice-2 .ensures .value) (c .pre .resolved .laid) in
     let P : List Cell → Type 0 = λ xs. Sorted xs (vec-items (c .arrange-met .last .order)) × CircleFree xs in
     let both = subst P cells (c .in-None .ensures tt) in
-    (both .0, accepted-all (declared d) (c .args .parts .now) (c .pre .text) (c .pre .resolved) (both .1))
+    (both .0, accepted-all (declared d) (c .args .parts .now) (c .pre .text) (c .pre .resolved) (both .1), sorted-ordered (declared d) (vec-items (c .arrange-met .last .order)) (both .0) (c .pre .resolved .listed))
 
 pub returns-in-Some : need.returns-in-Some
 returns-in-Some c =
