@@ -1,5 +1,5 @@
 // Reads .bench text on standard input and says in one line how large it is, or what is wrong with it.
-use bench::declarations::Declarations;
+use netlist::whole::Netlist;
 use report::lines::counts_line;
 use report::lines::refusal_line;
 use report::short::ShortBuffer;
@@ -12,6 +12,11 @@ use std::io::Write;
 
 // One byte more than a text may have tells that it has too many.
 const MOST: u64 = 65_537;
+
+// What a load works with: a cell for each net, and a link for each listed fault.
+const CELLS: usize = 2_048;
+
+const LINKS: usize = 20_480;
 
 // No line is longer.
 const LINE: usize = 120;
@@ -28,9 +33,11 @@ fn judge(
     text: &[u8],
     line: &mut [u8],
 ) -> Result<(Result<usize, ShortBuffer>, bool), AllocError> {
-    let mut declarations = Declarations::new(heap)?;
-    match declarations.read(text) {
-        Ok(()) => Ok((counts_line(line, declarations.counts()), true)),
+    let mut cells = vec![in heap; 0u16; CELLS]?;
+    let mut links = vec![in heap; 0u16; LINKS]?;
+    let mut netlist = Netlist::empty(heap);
+    match netlist.load(heap, text, cells.as_mut_slice(), links.as_mut_slice()) {
+        Ok(()) => Ok((counts_line(line, netlist.counts()), true)),
         Err(fault) => Ok((refusal_line(line, fault.refusal()), false)),
     }
 }

@@ -24,6 +24,7 @@ made text ds cells links (Ok n) e h b =
         accepted-whole = b .2;
         netlist = b .0;
         names = b .1;
+        pins-in-line-order = b .4;
         values = names-have-their-lines-values ds (well-declared (lines .0) ds (lines .1) (b .2) (b .3));
       },
     )

@@ -4,3 +4,4 @@ pub mod Laid
 pub mod Building
 pub mod Views
 pub mod Loading
+pub mod Refusing

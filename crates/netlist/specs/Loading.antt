@@ -1,26 +1,24 @@
 -- What a load makes of a text.
 use mathlib.Core.Path.{_≡_}
-use mathlib.Core.List.{List, []}
+use mathlib.Core.List.{List, [], map}
 use Prim.Native.Nat.{ℕ, _≤_}
 use Rattle.std.specs.declared.result.Result.{Result}
 use Rattle.std.specs.declared.result.Result.the-variants.{Ok, Err}
-use Rattle.grammar.specs.Rules.{Declaration, nets}
-use Rattle.model.specs.declared.refusal.Refusal.{Refusal}
-use Rattle.model.specs.Refusals.{refusal}
+use Rattle.grammar.specs.Rules.{Declaration, nets, pins}
 use Rattle.grammar.specs.Reading.{Reads, accepted, refused}
 use Rattle.bench.specs.Faults.{statementRefusal}
 use Rattle.circuit.specs.Circles.{Ordered}
-use Rattle.elaborate.specs.Elaborate.{netlistOf}
+use Rattle.elaborate.specs.Elaborate.{netlistOf, placeOf}
 use Rattle.elaborate.specs.Values.{NamesHaveTheirLinesValues}
 use Rattle.elaborate.specs.Whole.{RefusedWhole, AcceptedWhole}
 use Rattle.netlist.specs.declared.fault.LoadFault.{LoadFault}
 use Rattle.netlist.specs.declared.fault.LoadFault.the-variants as fault
 use Rattle.netlist.specs.declared.whole.Netlist.{Netlist}
-use Rattle.netlist.specs.Views.{netlistIn, namesIn, Empty}
+use Rattle.netlist.specs.Views.{netlistIn, namesIn, pinsIn, Empty}
 
 -- the netlist that the declarations stand for, where no rule is broken; or the refusal, or want of memory
 abbrev pub Builds : List Declaration → Result Netlist LoadFault → Type 0
-Builds ds (Ok n) = (netlistIn n ≡ netlistOf ds) × (namesIn n ≡ nets ds) × AcceptedWhole ds × Ordered (netlistOf ds)
+Builds ds (Ok n) = (netlistIn n ≡ netlistOf ds) × (namesIn n ≡ nets ds) × AcceptedWhole ds × Ordered (netlistOf ds) × (pinsIn n ≡ map (placeOf (nets ds)) (pins ds))
 Builds ds (Err fault.Memory) = Unit {0}
 Builds ds (Err fault.FewCells) = ⊥
 Builds ds (Err (fault.Statement f)) = ⊥
@@ -28,16 +26,6 @@ Builds ds (Err (fault.UndefinedOperand line)) = RefusedWhole ds 10 line
 Builds ds (Err (fault.UndefinedOutput line)) = RefusedWhole ds 11 line
 Builds ds (Err fault.NoPort) = RefusedWhole ds 12 0
 Builds ds (Err (fault.Circle line)) = RefusedWhole ds 13 line
-
--- the numbers, lines and layers of what a load is refused for; 0 is want of memory
-abbrev pub loadRefusal : LoadFault → Refusal
-loadRefusal fault.Memory = refusal 0 0
-loadRefusal fault.FewCells = refusal 1 0
-loadRefusal (fault.Statement f) = statementRefusal f
-loadRefusal (fault.UndefinedOperand line) = refusal 10 line
-loadRefusal (fault.UndefinedOutput line) = refusal 11 line
-loadRefusal fault.NoPort = refusal 12 0
-loadRefusal (fault.Circle line) = refusal 13 line
 
 -- so many working cells and parent links are enough for every netlist
 abbrev pub Enough : ℕ → ℕ → Type 0
@@ -55,6 +43,7 @@ pub record Means (text : List ℕ) (n : Netlist) : Type 0 where
   pub accepted-whole : AcceptedWhole declared
   pub netlist : netlistIn n ≡ netlistOf declared
   pub names : namesIn n ≡ nets declared
+  pub pins-in-line-order : pinsIn n ≡ map (placeOf (nets declared)) (pins declared)
   pub values : NamesHaveTheirLinesValues declared
 
 -- the outcome of making a netlist from a text with so many cells and links

@@ -4,10 +4,11 @@ ghost use Rattle.std.specs.Of.Vec.{vec-items};
 ghost use Rattle.circuit.specs.Circles.{Sorted};
 ghost use Rattle.circuit.specs.Tables.{cellsOf};
 ghost use Rattle.netlist.specs.Names.{nameBytes};
-ghost use Rattle.netlist.specs.Views.{Empty, namesIn, netlistIn};
+ghost use Rattle.netlist.specs.Views.{Empty, countsIn, namesIn, netlistIn, pinsIn};
 use super::Netlist;
 use crate::name::NetName;
 use circuit::net::Net;
+use model::counts::Counts;
 use std::alloc::Global;
 
 impl Netlist {
@@ -22,6 +23,7 @@ impl Netlist {
     ) -> Netlist
         requires { ⌜ Sorted (cellsOf (vec-items nets) (vec-items pins)) (vec-items order) ⌝ }
         ensures names { λ r. ⌜ namesIn r ≡ map nameBytes (vec-items names) ⌝ }
+        ensures pins { λ r. ⌜ pinsIn r ≡ vec-items pins ⌝ }
         ensures netlist { λ r. ⌜ netlistIn r ≡ record { inputs = inputs; cells = cellsOf (vec-items nets) (vec-items pins); outputs = vec-items outputs } ⌝ }
     {
         Netlist {
@@ -45,6 +47,17 @@ impl Netlist {
             inputs: 0,
             outputs: Vec::new(heap),
             order: Vec::new(heap),
+        }
+    }
+
+    pub fn counts(&self) -> Counts
+        ensures { λ r. ⌜ r ≡ countsIn (now (self .entry)) ⌝ }
+    {
+        Counts {
+            nets: self.nets.len(),
+            inputs: self.inputs,
+            outputs: self.outputs.len(),
+            pins: self.pins.len(),
         }
     }
 }
