@@ -20,7 +20,7 @@ fn write_outcome(
 }
 
 // Reads a text, and prints its label and what came of it.
-fn tell_text(rt: &LibcRuntime, label: &[u8], text: &[u8]) -> io::Result<()> {
+pub fn tell_text(rt: &LibcRuntime, label: &[u8], text: &[u8]) -> io::Result<()> {
     let mut declarations = Declarations::new(rt.alloc())?;
     let answer = declarations.read(text);
     let mut line = [0u8; 64];
@@ -29,13 +29,6 @@ fn tell_text(rt: &LibcRuntime, label: &[u8], text: &[u8]) -> io::Result<()> {
     out.write_all(label)?;
     out.write_all(b": ")?;
     out.write_all(&line[0..length])
-}
-
-pub fn tell(rt: &LibcRuntime, cases: &[(&[u8], &[u8])]) -> io::Result<()> {
-    for (label, text) in cases {
-        tell_text(rt, label, text)?;
-    }
-    Ok(())
 }
 
 // Each text is a long one and a few bytes behind it, which are taken away again.
