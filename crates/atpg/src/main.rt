@@ -1,4 +1,6 @@
 // Reads .bench text on standard input and says in one line how large it is, or what is wrong with it.
+#![tactic(auto)]
+
 use anyhow::anyhow;
 use netlist::whole::Netlist;
 use report::lines::{counts_line, refusal_line};

@@ -1,4 +1,6 @@
 // Reads many texts, and prints the line of counts or of the refusal for each; the file stdout has what the rules say.
+#![tactic(auto)]
+
 mod behind;
 mod long;
 mod told;

@@ -1,4 +1,6 @@
 // Tests of the stack, at net numbers and at a record. Their own crate, since a crate with tests is proved twice.
+#![tactic(auto)]
+
 ghost use Rattle.std.specs.Prelude.{◌≡◌, []};
 ghost use Rattle.cells.specs.Stacks.{held};
 

@@ -1,5 +1,7 @@
 // Chains through a table of keys: where each key stands first, and behind each place the next one with the same key.
 // The pins that read a net and the faults of a class are such chains.
+#![tactic(auto)]
+
 ghost use Rattle.std.specs.Prelude.{◌≡◌, ℕ, ◌<◌, ◌≤◌, length, IfOk, slice_index};
 ghost use Rattle.chains.specs.Chains.{Chained, FirstPlaces, NextPlaces};
 

@@ -1,5 +1,7 @@
 // Which netlist the declarations of a text stand for: definitions and theorems. The one function carries the theorems
 // for a caller's contract.
+#![tactic(auto)]
+
 ghost use Rattle.elaborate.specs.Values.{Declarations-stand};
 ghost use Rattle.elaborate.specs.Whole.{One-answer};
 

@@ -1,5 +1,7 @@
 // Roth's five values (1966): 0, 1, D where only the good circuit carries 1, E (D with a bar) where only the
 // faulty one does, and X where anything may be.
+#![tactic(auto)]
+
 ghost use Rattle.five.specs.Five.{five_meaning, five_ops, five_words, five_search, five_pairs, five_constant};
 ghost use Rattle.std.specs.Prelude.{refl};
 ghost use Rattle.model.proofs.OneLane.{operation_laws, word_laws};

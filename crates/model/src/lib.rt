@@ -1,4 +1,6 @@
 // The subject's types that every layer shares, and its rules.
+#![tactic(auto)]
+
 pub mod counts;
 pub mod kind;
 pub mod refusal;

@@ -1,4 +1,6 @@
 // Netlists that own their tables, and the loader that makes them from .bench text.
+#![tactic(auto)]
+
 mod arrange;
 pub mod fault;
 mod load;

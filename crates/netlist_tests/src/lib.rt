@@ -1,5 +1,7 @@
 // Tests of loading: the refusals of the netlist layer, which comes first, and what is accepted. Their own crate, since a
 // crate with tests is proved twice.
+#![tactic(auto)]
+
 #[cfg(test)]
 mod tests {
     use netlist::fault::LoadFault;

@@ -1,4 +1,6 @@
 // Muth's nine values (1976): what the good circuit carries and what the faulty one does, each 0, 1 or X.
+#![tactic(auto)]
+
 ghost use Rattle.std.specs.Prelude.{◌<◌};
 
 pub mod logic;

@@ -1,5 +1,7 @@
 // The evaluation order of a netlist, or the first net that depends on a circle: walks back from each net in line
 // order, without recursion. Each net is entered once; all walks together make at most pins + 2 x nets turns.
+#![tactic(auto)]
+
 ghost use Rattle.std.specs.Prelude.{◌≡◌, ℕ, ◌<◌, ◌≤◌, [], length, vec_capacity};
 ghost use Rattle.circuit.specs.Tables.{cells_of, AllFormed};
 ghost use Rattle.walk.specs.Walks.{mark_at};

@@ -1,4 +1,6 @@
 // Packed values: 64 decided lanes in two words.
+#![tactic(auto)]
+
 ghost use Rattle.std.specs.Prelude.{◌≡◌, ◌^◌, ◌&&◌, ◌||◌, refl};
 ghost use Rattle.std.proofs.Common.{◌∙◌, lit<, lit≤, rules};
 ghost use Rattle.packed.specs.Packed.{packed, packed_meaning, packed_ops, packed_words};

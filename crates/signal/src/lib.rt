@@ -1,5 +1,7 @@
 // Signal algebras: values that stand for what a place of the good and of the faulty circuit may carry.
 // Evaluation and search are written once over these interfaces and rest on the laws alone.
+#![tactic(auto)]
+
 ghost use Rattle.std.specs.Prelude.{◌≡◌};
 ghost use Rattle.model.specs.Operations.{Ops};
 ghost use Rattle.model.specs.Meaning.{Meaning};

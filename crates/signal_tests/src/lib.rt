@@ -1,4 +1,6 @@
 // The algebras as another crate sees them: generic code over the interface, an algebra of its own, and worked rows.
+#![tactic(auto)]
+
 ghost use Rattle.std.specs.Prelude.{◌≡◌, ◌-◌, ◌^◌};
 
 use pair::Pair;

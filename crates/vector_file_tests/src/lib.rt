@@ -1,4 +1,6 @@
 // Tests of vector files, byte by byte. Their own crate, since a crate with tests is proved twice.
+#![tactic(auto)]
+
 #[cfg(test)]
 mod tests {
     use vector_file::entry::Entry;
