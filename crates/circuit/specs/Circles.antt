@@ -1,5 +1,5 @@
 -- Which nets depend on a circle, and what an order is.
-use Rattle.std.specs.Prelude.{◌≡◌, ℕ, ◌<◌, List, [], length, slice_index}
+use Rattle.std.specs.Prelude.{◌≡◌, ℕ, ◌<◌, List, length, slice_index}
 use Rattle.circuit.specs.Circuit.{Cell, ReadsIn, Netlist, IsOutput, cell_in, input}
 
 -- followed back from net k, by one step or more, one comes to net j

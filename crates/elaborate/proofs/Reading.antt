@@ -1,11 +1,11 @@
 -- What holds of declarations because they were read line by line.
-use Rattle.std.proofs.Common.{ℕ, suc, ◌<◌, List, [], ◌∷◌, ◌++◌, length, get_or, sym, ap, ◌∙◌, subst, inl, inr, arith}
+use Rattle.std.proofs.Common.{ℕ, suc, ◌<◌, List, [], ◌∷◌, ◌++◌, length, get_or, sym, ap, subst, inl, inr, arith}
 use Rattle.std.specs.List.{ContainsAt as Has}
 use Rattle.std.proofs.lemmas.List.{append-nil, length_push, get_or_push, get_or_append_left}
 use Rattle.std.proofs.ByRecursion.{has_get_or, has_push_cases}
 use Rattle.std.proofs.lemmas.Bool.{cases_lt}
 use Rattle.grammar.specs.Grammar.{Statement, input, output, gate}
-use Rattle.grammar.specs.Rules.{Declaration, Among, UnknownKind, Redefines, net_of, nets, unknown_kind, defined_before}
+use Rattle.grammar.specs.Rules.{Declaration, UnknownKind, Redefines, net_of, nets, unknown_kind, defined_before}
 use Rattle.grammar.specs.Reading.{Accepted, Answer, ReadsFrom, at_end, silent, declares, refuses, Reads, too_long, in_lines}
 use Rattle.grammar.specs.Proper.{Distinct}
 use Rattle.grammar.proofs.Properly.{distinct_push}

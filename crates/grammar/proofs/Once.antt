@@ -1,12 +1,10 @@
 -- A line spells at most one statement, and a text is read in one way.
-use Rattle.std.proofs.Common.{◌≡◌, ℕ, suc, ◌<◌, ◌≤◌, List, [], ◌∷◌, ◌++◌, length, sym, refl, ap, ◌∙◌, subst, ⊎_elim, arith}
+use Rattle.std.proofs.Common.{◌≡◌, ℕ, suc, List, [], ◌∷◌, ◌++◌, refl, ap, subst, ⊎_elim, arith}
 use Rattle.std.proofs.lemmas.Bool.{cases_lt}
 use Rattle.model.specs.Refusals.{refusal}
-use Rattle.grammar.specs.Lines.{lines}
 use Rattle.grammar.specs.Grammar.{Statement, Spells, SaysNothing}
-use Rattle.grammar.specs.Scan.{says, empty, parse, scan}
 use Rattle.grammar.specs.Rules.{Declaration, Breaks, no_statement, long_name, unknown_kind, operand_count, defined_before, listed_before, beyond_limit}
-use Rattle.grammar.specs.Reading.{Refused, Accepted, Answer, accepted, refused, ReadsFrom, at_end, silent, declares, refuses, Reads, too_long, in_lines, One-statement, One-reading}
+use Rattle.grammar.specs.Reading.{Refused, Answer, refused, ReadsFrom, at_end, silent, declares, refuses, too_long, in_lines, One-statement, One-reading}
 use Rattle.grammar.proofs.Meaning.{spelled, silenced}
 
 pub same_statement : (line : List ℕ) (s t : Statement) → Spells line s → Spells line t → s ≡ t

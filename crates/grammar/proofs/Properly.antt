@@ -1,5 +1,5 @@
 -- Declarations that are read without a refusal are proper.
-use Rattle.std.proofs.Common.{◌≡◌, ℕ, suc, ◌+◌, ◌<◌, ◌≤◌, Bool, true, false, cond, ◌||◌, ltb, ◌⊎◌, List, [], ◌∷◌, ◌++◌, length, get_or, codes, sym, refl, ap, ◌∙◌, subst, inl, inr, ⊎_elim, arith}
+use Rattle.std.proofs.Common.{◌≡◌, ℕ, ◌<◌, ◌≤◌, Bool, true, false, ◌||◌, ltb, ◌⊎◌, List, [], ◌∷◌, ◌++◌, length, get_or, codes, sym, refl, ap, ◌∙◌, subst, inl, inr, ⊎_elim, arith}
 use Rattle.std.specs.Str.{bytes_eq}
 use Rattle.std.proofs.lemmas.Slice.Eq.{bytes_eq-Decides}
 use Rattle.std.proofs.lemmas.List.{append-nil, append_assoc, length_push, get_or_push, get_or_append_left}
@@ -8,9 +8,9 @@ use Rattle.std.proofs.lemmas.Bool.Decides.{nat_tests}
 use Rattle.model.specs.declared.kind.Kind.{Kind}
 use Rattle.model.specs.declared.kind.Kind.TheVariants.{And, Nand, Or, Nor, Xor, Xnor, Not, Buff}
 use Rattle.model.specs.Kinds.{word, takes}
-use Rattle.grammar.specs.Grammar.{Statement, input, output, gate, Spells}
-use Rattle.grammar.specs.Rules.{Declaration, nets, net_of, gathered, Among, LongName, UnknownKind, OperandCount, Redefines, long_name, unknown_kind, operand_count, defined_before}
-use Rattle.grammar.specs.Reading.{Accepted, Answer, accepted, refused, ReadsFrom, at_end, silent, declares, refuses, Reads, too_long, in_lines}
+use Rattle.grammar.specs.Grammar.{Statement, input, output, gate}
+use Rattle.grammar.specs.Rules.{Declaration, nets, net_of, Among, LongName, UnknownKind, OperandCount, Redefines, long_name, unknown_kind, operand_count, defined_before}
+use Rattle.grammar.specs.Reading.{Accepted, Answer, ReadsFrom, at_end, silent, declares, refuses, Reads, too_long, in_lines}
 use Rattle.grammar.specs.Proper.{ProperStatement, AllProper, Distinct, Proper}
 
 -- whether a word names a kind is decided

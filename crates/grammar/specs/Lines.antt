@@ -1,5 +1,5 @@
 -- The lines of a text.
-use Rattle.std.specs.Prelude.{ℕ, ◌-◌, Bool, cond, List, [], ◌∷◌, map, length, take, ◌==◌, slice_index}
+use Rattle.std.specs.Prelude.{ℕ, ◌-◌, cond, List, [], ◌∷◌, map, length, take, ◌==◌, slice_index}
 
 -- a byte before the first line
 abbrev pub before : ℕ → List (List ℕ) → List (List ℕ)

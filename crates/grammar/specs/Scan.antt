@@ -1,6 +1,6 @@
 -- The pieces of a line as a function of the line, and what they say. No promise to a caller rests on this file: the
 -- reader's inner functions are stated by it, and proofs/ shows that it agrees with the grammar.
-use Rattle.std.specs.Prelude.{◌≡◌, ℕ, ◌<◌, Bool, true, false, cond, List, [], ◌∷◌, ◌++◌, codes, ◌==◌}
+use Rattle.std.specs.Prelude.{ℕ, Bool, true, false, cond, List, [], ◌∷◌, codes, ◌==◌}
 use Rattle.std.specs.Str.{bytes_eq}
 use Rattle.grammar.specs.Grammar.{is_blank_byte, is_name_character, Piece, name, sign, Statement, input, output, gate}
 

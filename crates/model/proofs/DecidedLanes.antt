@@ -1,8 +1,8 @@
 -- The laws of an algebra whose lanes are all decided.
-use Rattle.std.proofs.Common.{◌≡◌, ℕ, ◌^◌, ◌<◌, Bool, true, false, not, ◌&&◌, ◌||◌, sym, refl, ap, ◌∙◌, subst, arith}
+use Rattle.std.proofs.Common.{◌≡◌, ℕ, ◌^◌, ◌<◌, Bool, true, false, not, ◌||◌, sym, refl, ap, ◌∙◌, subst, arith}
 use mathlib.Core.Bool.{beq}
-use Rattle.model.specs.Bits.{bit, differ}
-use Rattle.model.specs.Pairs.{Pairs, Has, every, size, only}
+use Rattle.model.specs.Bits.{bit}
+use Rattle.model.specs.Pairs.{Has, every, size, only}
 use Rattle.model.specs.Meaning.{Meaning}
 use Rattle.model.specs.OperationLaws.{Unary, Binary}
 use Rattle.model.specs.WordLaws.{Word}

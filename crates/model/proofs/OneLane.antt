@@ -3,7 +3,7 @@ use Rattle.std.proofs.Common.{◌≡◌, ℕ, ◌^◌, ◌<◌, Bool, true, fals
 use mathlib.Core.Bool.{beq}
 use Rattle.std.proofs.lemmas.Bool.{ltb-true, eqb-true, eq-eqb}
 use Rattle.model.specs.Bits.{bit, differ}
-use Rattle.model.specs.Pairs.{Pairs, Has, every, size, only}
+use Rattle.model.specs.Pairs.{Pairs, every, size, only}
 use Rattle.model.specs.Operations.{Ops}
 use Rattle.model.specs.OperationLaws.{OperationLaws, Unary, Binary}
 use Rattle.model.specs.WordLaws.{WordLaws, Word}

@@ -1,5 +1,5 @@
 -- Algebras of one lane: what their values mean fixes what is read of them.
-use Rattle.std.specs.Prelude.{Bool, cond, ◌==◌}
+use Rattle.std.specs.Prelude.{cond, ◌==◌}
 use Rattle.model.specs.Bits.{differ}
 use Rattle.model.specs.Pairs.{Pairs, every, some, size}
 use Rattle.model.specs.Meaning.{Meaning}
