@@ -1,17 +1,17 @@
 -- In an ordered netlist `value` is what the nets carry, and nothing else is.
 use Rattle.std.proofs.Common.{◌≡◌, ℕ, zero, suc, ◌<◌, List, [], ◌∷◌, length, sym, refl, ap, ◌∙◌, ap₂, arith}
-use Rattle.std.specs.List.{AllByRecursion as All}
+use Rattle.std.specs.List.{AllByRecursion}
 use Rattle.std.proofs.ByRecursion.{All-from_get_or}
 use Rattle.model.specs.Operations.{Ops}
 use Rattle.circuit.specs.Circuit.{Cell, input, gate, Netlist, Fault, IsNet, ReadsIn, Carries, at_stem, at_pin, seen, combined, cell_value, net_value, cell_in, operands_at, operands_of, settled, value}
 use Rattle.circuit.specs.Circles.{Ordered}
 
 module _ {V : Type 0} (ops : Ops V) (c : Netlist) (φ : Fault) (drive : ℕ → V) where
-  seen_same : (val val' : ℕ → V) (k p : ℕ) (js : List ℕ) → All (λ j. val j ≡ val' j) js → seen ops φ val k p js ≡ seen ops φ val' k p js
+  seen_same : (val val' : ℕ → V) (k p : ℕ) (js : List ℕ) → AllByRecursion (λ j. val j ≡ val' j) js → seen ops φ val k p js ≡ seen ops φ val' k p js
   seen_same val val' k p [] all = refl
   seen_same val val' k p (j ∷ js) all = ap₂ ◌∷◌ (ap (at_pin ops φ k p) all.0) (seen_same val val' k (suc p) js all.1)
 
-  cell_same : (val val' : ℕ → V) (k : ℕ) (cell : Cell) → All (λ j. val j ≡ val' j) (operands_of cell) → cell_value ops φ drive val k cell ≡ cell_value ops φ drive val' k cell
+  cell_same : (val val' : ℕ → V) (k : ℕ) (cell : Cell) → AllByRecursion (λ j. val j ≡ val' j) (operands_of cell) → cell_value ops φ drive val k cell ≡ cell_value ops φ drive val' k cell
   cell_same val val' k (input i) all = refl
   cell_same val val' k (gate kind js) all = ap (combined ops kind) (seen_same val val' k 0 js all)
 

@@ -2,7 +2,7 @@
 use Rattle.std.proofs.Common.{◌≡◌, ℕ, List, sym, subst, inl, inr}
 use Rattle.std.proofs.lemmas.Bool.{cases_order}
 use Rattle.grammar.specs.Rules.{Declaration}
-use Rattle.elaborate.specs.Whole.{RefusedWhole, AcceptedWhole, One-answer}
+use Rattle.elaborate.specs.Whole.{RefusedWhole, AcceptedWhole, OneAnswer}
 
 same_number : {ds : List Declaration} {n m line l : ℕ} → RefusedWhole ds n line → RefusedWhole ds m l → n ≡ m
 same_number {n = n} {m = m} r q = elim (cases_order n m) [
@@ -25,5 +25,5 @@ one_refusal {ds = ds} {l = l} r q = let e = same_number r q in
 pub not_accepted : {ds : List Declaration} {n line : ℕ} → RefusedWhole ds n line → AcceptedWhole ds → ⊥
 not_accepted {n = n} {line = line} r a = a n line r.broken
 
-pub one_answer : One-answer
+pub one_answer : OneAnswer
 one_answer = (λ ds n m line l r q. one_refusal r q, λ ds n line r a. not_accepted r a)

@@ -1,6 +1,6 @@
 -- Which cell the net of each line has, and which line has each net.
 use Rattle.std.proofs.Common.{◌≡◌, ℕ, zero, suc, ◌+◌, ◌<◌, List, [], ◌∷◌, ◌++◌, map, length, get_or, sym, refl, ap, ◌∙◌, arith}
-use Rattle.std.specs.List.{ContainsAt as Has}
+use Rattle.std.specs.List.{ContainsAt}
 use Rattle.std.proofs.lemmas.List.{length-append, get_or-append-add, get_or_append_left}
 use Rattle.grammar.specs.Grammar.{Statement, input, output, gate}
 use Rattle.grammar.specs.Rules.{Declaration, Among, input_of, pins_of, nets, inputs, pins}
@@ -27,7 +27,7 @@ module _ (names : List (List ℕ)) where
       at l (gate m k os) a = (suc p, record { below = omega arith; name = a.name; is = a.is })
 
   -- the net of a gate's line
-  pub gate_net : (i : ℕ) (ds : List Declaration) (l : ℕ) (n k : List ℕ) (os : List (List ℕ)) → Has ds (record { line = l; says = gate n k os }) → (p : ℕ) × NetAt names i ds p n (gate_cell k os)
+  pub gate_net : (i : ℕ) (ds : List Declaration) (l : ℕ) (n k : List ℕ) (os : List (List ℕ)) → ContainsAt ds (record { line = l; says = gate n k os }) → (p : ℕ) × NetAt names i ds p n (gate_cell k os)
   gate_net i [] l n k os (q, h, e) = absurd (omega arith)
   gate_net i (d ∷ ds) l n k os (zero, h, e) = at d.line d.says (ap (λ (c : Declaration). c.says) (e d))
     where
@@ -56,7 +56,7 @@ module _ (names : List (List ℕ)) where
   -- each net stands for an input, or for a gate's line
   pub data Defined (i : ℕ) (ds : List Declaration) (p : ℕ) : Type 0 where
     by_input : (q t : ℕ) → q < length (inputs ds) → t ≡ i + q → get_or (inputs ds) q [] ≡ get_or (nets ds) p [] → cell_in (cells_with names i ds) p ≡ Cell.input t → Defined i ds p
-    by_gate : (l : ℕ) (n k : List ℕ) (os : List (List ℕ)) → Has ds (record { line = l; says = gate n k os }) → n ≡ get_or (nets ds) p [] → cell_in (cells_with names i ds) p ≡ gate_cell k os → Defined i ds p
+    by_gate : (l : ℕ) (n k : List ℕ) (os : List (List ℕ)) → ContainsAt ds (record { line = l; says = gate n k os }) → n ≡ get_or (nets ds) p [] → cell_in (cells_with names i ds) p ≡ gate_cell k os → Defined i ds p
 
   pub net_defined : (i : ℕ) (ds : List Declaration) (p : ℕ) → p < length (nets ds) → Defined i ds p
   net_defined i [] p h = absurd (omega arith)
@@ -76,7 +76,7 @@ module _ (names : List (List ℕ)) where
       at l (gate m k os) (suc p) h more = after l (gate m k os) p (suc p) refl refl (more p (omega arith))
 
 -- a gate's operands are pins
-pub operand_pin : (ds : List Declaration) (l : ℕ) (n k : List ℕ) (os : List (List ℕ)) → Has ds (record { line = l; says = gate n k os }) → (o : List ℕ) → Among os o → Among (pins ds) o
+pub operand_pin : (ds : List Declaration) (l : ℕ) (n k : List ℕ) (os : List (List ℕ)) → ContainsAt ds (record { line = l; says = gate n k os }) → (o : List ℕ) → Among os o → Among (pins ds) o
 operand_pin [] l n k os (q, h, e) o a = absurd (omega arith)
 operand_pin (d ∷ ds) l n k os (zero, h, e) o (r, g, f) =
     let s : pins_of d.says ≡ os = ap (λ (c : Declaration). pins_of c.says) (e d) in

@@ -1,6 +1,6 @@
 -- Names gathered from the declarations.
 use Rattle.std.proofs.Common.{◌≡◌, ℕ, zero, suc, ◌+◌, ◌-◌, ◌<◌, List, [], ◌∷◌, ◌++◌, length, get_or, sym, refl, ap, ◌∙◌, inl, inr, arith}
-use Rattle.std.specs.List.{ContainsAt as Has}
+use Rattle.std.specs.List.{ContainsAt}
 use Rattle.std.proofs.lemmas.List.{append-nil, append_assoc, length-append, get_or_append_left, get_or-append-add, get_or-append_right}
 use Rattle.std.proofs.lemmas.Bool.{cases_lt}
 use Rattle.grammar.specs.Grammar.{Statement}
@@ -18,7 +18,7 @@ pub nets_push : (ds : List Declaration) (d : Declaration) → nets (ds ++ d ∷ 
 nets_push ds d = gathered_push net_of ds d
 
 -- what is gathered comes from a declaration
-pub gathered_from : (f : Statement → List (List ℕ)) (ds : List Declaration) (n : List ℕ) → Among (gathered f ds) n → (d : Declaration) × Has ds d × Among (f d.says) n
+pub gathered_from : (f : Statement → List (List ℕ)) (ds : List Declaration) (n : List ℕ) → Among (gathered f ds) n → (d : Declaration) × ContainsAt ds d × Among (f d.says) n
 gathered_from f [] n (i, h, e) = absurd (omega arith)
 gathered_from f (d ∷ ds) n (i, h, e) = elim (cases_lt i (length (f d.says))) [
   | inl g ↦ (d, (0, omega arith, λ _. refl), (i, g, sym (get_or_append_left (f d.says) (gathered f ds) [] i g) ∙ e))
@@ -29,7 +29,7 @@ gathered_from f (d ∷ ds) n (i, h, e) = elim (cases_lt i (length (f d.says))) [
 ]
 
 -- what a declaration has is gathered
-pub gathered_into : (f : Statement → List (List ℕ)) (ds : List Declaration) (d : Declaration) (n : List ℕ) → Has ds d → Among (f d.says) n → Among (gathered f ds) n
+pub gathered_into : (f : Statement → List (List ℕ)) (ds : List Declaration) (d : Declaration) (n : List ℕ) → ContainsAt ds d → Among (f d.says) n → Among (gathered f ds) n
 gathered_into f [] d n (j, h, e) a = absurd (omega arith)
 gathered_into f (c ∷ ds) d n (zero, h, e) (i, g, is) =
     let same = ap (λ (x : Declaration). f x.says) (e c) in

@@ -1,6 +1,6 @@
 -- The netlist's nets have the values that the lines say, and no others have.
 use Rattle.std.proofs.Common.{◌≡◌, ℕ, suc, Bool, List, [], ◌∷◌, map, get_or, sym, refl, ap, ◌∙◌, subst, ap₂, arith}
-use Rattle.std.specs.List.{ContainsAt as Has}
+use Rattle.std.specs.List.{ContainsAt}
 use Rattle.model.specs.Kinds.{word}
 use Rattle.model.specs.Bits.{bit}
 use Rattle.grammar.specs.Grammar.{gate}
@@ -28,7 +28,7 @@ by_places val names (o ∷ os) all =
     ap₂ ◌∷◌ (ap val (among_at_place names o (all o (0, omega arith, refl)))) (by_places val names os (λ n (i, h, e). all n (suc i, omega arith, e)))
 
 module _ (ds : List Declaration) (w : WellDeclared ds) where
-  kind_of_lem : (l : ℕ) (n k : List ℕ) (os : List (List ℕ)) → Has ds (record { line = l; says = gate n k os }) → k ≡ word (kind_of k)
+  kind_of_lem : (l : ℕ) (n k : List ℕ) (os : List (List ℕ)) → ContainsAt ds (record { line = l; says = gate n k os }) → k ≡ word (kind_of k)
   kind_of_lem l n k os has = known_kind k (w.kinds_known (record { line = l; says = gate n k os }) has)
 
   module _ (v : ℕ) where
@@ -64,7 +64,7 @@ module _ (ds : List Declaration) (w : WellDeclared ds) where
             ap val (sym f) ∙ L.input_bits q h ∙ ap (bit v) s ∙ sym (ap (cell_value plain none (bit v) (numbered (nets ds) val) k) is)
         at (by_gate l n kw os has f is) =
             let kw-is = kind_of_lem l n kw os has in
-            let P : List ℕ → Type 0 = λ u. Has ds (record { line = l; says = gate n u os }) in
+            let P : List ℕ → Type 0 = λ u. ContainsAt ds (record { line = l; says = gate n u os }) in
             ap val (sym f) ∙ L.gate_values l n (kind_of kw) os (subst P kw-is has) ∙
             ap (combined plain (kind_of kw)) (sym (seen_map (numbered (nets ds) val) k 0 (place_of (nets ds)) os ∙ by_places val (nets ds) os (λ o a. w.operands_defined o (operand_pin ds l n kw os has o a)))) ∙
             sym (ap (cell_value plain none (bit v) (numbered (nets ds) val) k) is)

@@ -1,6 +1,6 @@
 -- What holds of declarations because they were read line by line.
 use Rattle.std.proofs.Common.{ℕ, suc, ◌<◌, List, [], ◌∷◌, ◌++◌, length, get_or, sym, ap, subst, inl, inr, arith}
-use Rattle.std.specs.List.{ContainsAt as Has}
+use Rattle.std.specs.List.{ContainsAt}
 use Rattle.std.proofs.lemmas.List.{append-nil, length_push, get_or_push, get_or_append_left}
 use Rattle.std.proofs.ByRecursion.{has_get_or, has_push_cases}
 use Rattle.std.proofs.lemmas.Bool.{cases_lt}
@@ -18,9 +18,9 @@ Rising ds = (i j : ℕ) (d e : Declaration) → i < j → j < length ds → (get
 -- declarations of the lines before line k
 pub record LineByLine (k : ℕ) (ds : List Declaration) : Type 0 where
   pub once : Distinct (nets ds)
-  pub known : (d : Declaration) → Has ds d → UnknownKind d.says → ⊥
+  pub known : (d : Declaration) → ContainsAt ds d → UnknownKind d.says → ⊥
   pub rising : Rising ds
-  pub before : (d : Declaration) → Has ds d → d.line < k
+  pub before : (d : Declaration) → ContainsAt ds d → d.line < k
 
 pub none_yet : (k : ℕ) → LineByLine k []
 none_yet k = record {

@@ -1,6 +1,6 @@
 -- From what a walk over the lines finds to the refusal of the whole, or to none.
 use Rattle.std.proofs.Common.{◌≡◌, ℕ, ◌<◌, ◌≤◌, ◌⊎◌, List, [], length, get_or, take, refl, ap, ◌∙◌, inl, inr, arith}
-use Rattle.std.specs.List.{ContainsAt as Has}
+use Rattle.std.specs.List.{ContainsAt}
 use Rattle.std.proofs.lemmas.List.{length-take-le, get_or-take, get_or_default}
 use Rattle.std.proofs.lemmas.Bool.{cases_lt, cases_order}
 use Rattle.grammar.specs.Grammar.{Statement}
@@ -20,7 +20,7 @@ AllDefined ds ns = (n : List ℕ) → Among ns n → Among (nets ds) n
 module _ (ds : List Declaration) where
   -- a declaration of this line has a name, among those that f takes, that no line defines
   abbrev Misses : (Statement → List (List ℕ)) → ℕ → Type 0
-  Misses f l = (d : Declaration) × (n : List ℕ) × Has ds d × Among (f d.says) n × Undefined ds n × (d.line ≡ l)
+  Misses f l = (d : Declaration) × (n : List ℕ) × ContainsAt ds d × Among (f d.says) n × Undefined ds n × (d.line ≡ l)
 
   at_10 : {n l : ℕ} → BreaksWhole ds n l → n ≡ 10 → Misses pins_of l
   at_10 (undefined_operand d n h a u) e = (d, n, h, a, u, refl)

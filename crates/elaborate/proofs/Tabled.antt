@@ -1,6 +1,6 @@
 -- A netlist's tables, declaration by declaration; places go by one fixed list of names.
 use Rattle.std.proofs.Common.{◌≡◌, ℕ, ◌+◌, ◌≤◌, List, [], ◌∷◌, ◌++◌, map, length, get_or, take, drop, sym, refl, ap, ◌∙◌, ap₂, arith}
-use Rattle.std.specs.List.{AllByRecursion as All}
+use Rattle.std.specs.List.{AllByRecursion}
 use Rattle.std.proofs.lemmas.List.{append-nil, length-append, length-map, get_or_append_left, get_or-append-add, get_or-map, map_push, map-append, take_all, take-append-le, drop_at, drop-append-le, length-drop}
 use Rattle.std.proofs.ByRecursion.{All-push, All-weaker}
 use Rattle.model.specs.declared.kind.Kind.{Kind}
@@ -24,7 +24,7 @@ cell_same wires more n (Input i) f = refl
 cell_same wires more n (Gate kind first count) f =
     ap (Cell.gate kind) (ap (take count) (drop-append-le first wires more (omega (arith, f.0))) ∙ take-append-le count (drop first wires) more (omega (arith, f.0, length-drop first wires)))
 
-cells_same : (wires more : List ℕ) (n : ℕ) (table : List Net) → All (Formed wires n) table → tables.cells_of table (wires ++ more) ≡ tables.cells_of table wires
+cells_same : (wires more : List ℕ) (n : ℕ) (table : List Net) → AllByRecursion (Formed wires n) table → tables.cells_of table (wires ++ more) ≡ tables.cells_of table wires
 cells_same wires more n [] all = refl
 cells_same wires more n (net ∷ table) all = ap₂ ◌∷◌ (cell_same wires more n net all.0) (cells_same wires more n table all.1)
 

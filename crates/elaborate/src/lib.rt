@@ -2,11 +2,11 @@
 // for a caller's contract.
 #![tactic(auto)]
 
-ghost use Rattle.elaborate.specs.Values.{Declarations-stand};
-ghost use Rattle.elaborate.specs.Whole.{One-answer};
+ghost use Rattle.elaborate.specs.Values.{DeclarationsStand};
+ghost use Rattle.elaborate.specs.Whole.{OneAnswer};
 
 // Each name has the value that its line says, and only that; and the whole is refused in at most one way.
 pub fn declarations_stand()
-    ensures values { Declarations-stand }
-    ensures answers { One-answer }
+    ensures values { DeclarationsStand }
+    ensures answers { OneAnswer }
 {}

@@ -4,7 +4,7 @@ use Rattle.std.proofs.lemmas.Bool.{cases_lt}
 use Rattle.model.specs.Refusals.{refusal}
 use Rattle.grammar.specs.Grammar.{Statement, Spells, SaysNothing}
 use Rattle.grammar.specs.Rules.{Declaration, Breaks, no_statement, long_name, unknown_kind, operand_count, defined_before, listed_before, beyond_limit}
-use Rattle.grammar.specs.Reading.{Refused, Answer, refused, ReadsFrom, at_end, silent, declares, refuses, too_long, in_lines, One-statement, One-reading}
+use Rattle.grammar.specs.Reading.{Refused, Answer, refused, ReadsFrom, at_end, silent, declares, refuses, too_long, in_lines, OneStatement, OneReading}
 use Rattle.grammar.proofs.Meaning.{spelled, silenced}
 
 pub same_statement : (line : List ℕ) (s t : Statement) → Spells line s → Spells line t → s ≡ t
@@ -14,7 +14,7 @@ pub not_both : (line : List ℕ) (s : Statement) → Spells line s → SaysNothi
 not_both line s h k =
     let e = spelled line s h in let f = silenced line k in let z : ◌≡◌ {A = ℕ} 0 1 = cc in omega arith
 
-pub one_statement : One-statement
+pub one_statement : OneStatement
 one_statement = (same_statement, not_both)
 
 -- a line that says nothing breaks no rule
@@ -44,7 +44,7 @@ one_from (refuses k ds l ls n h) (silent j cs m ms b fs g q) = absurd (silent_cl
 one_from (refuses k ds l ls n h) (declares j cs m ms s b fs g q) = absurd (g.clean n h.broken)
 one_from (refuses k ds l ls n h) (refuses j cs m ms i g) = (ap (λ (i : ℕ). refused (refusal i k)) (one_refusal h g), refl)
 
-pub one_reading : One-reading
+pub one_reading : OneReading
 one_reading text ds a b es fs (too_long h) (too_long g) = (refl, refl)
 one_reading text ds a b es fs (too_long h) (in_lines c gs g q) = absurd (omega (arith, h, g))
 one_reading text ds a b es fs (in_lines c gs h r) (too_long g) = absurd (omega (arith, h, g))

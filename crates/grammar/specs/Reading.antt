@@ -33,9 +33,9 @@ pub data Reads (text : List ℕ) (ds : List Declaration) : Answer → List Decla
   in_lines : (a : Answer) (es : List Declaration) → length text ≤ 65536 → ReadsFrom 1 ds (lines text) a es → Reads text ds a es
 
 -- A line spells at most one statement, and none where it says nothing.
-abbrev pub One-statement : Type 0
-One-statement = ((line : List ℕ) (s t : Statement) → Spells line s → Spells line t → s ≡ t) × ((line : List ℕ) (s : Statement) → Spells line s → SaysNothing line → ⊥)
+abbrev pub OneStatement : Type 0
+OneStatement = ((line : List ℕ) (s t : Statement) → Spells line s → Spells line t → s ≡ t) × ((line : List ℕ) (s : Statement) → Spells line s → SaysNothing line → ⊥)
 
 -- A text is read in at most one way.
-abbrev pub One-reading : Type 0
-One-reading = (text : List ℕ) (ds : List Declaration) (a b : Answer) (es fs : List Declaration) → Reads text ds a es → Reads text ds b fs → (a ≡ b) × (es ≡ fs)
+abbrev pub OneReading : Type 0
+OneReading = (text : List ℕ) (ds : List Declaration) (a b : Answer) (es fs : List Declaration) → Reads text ds a es → Reads text ds b fs → (a ≡ b) × (es ≡ fs)

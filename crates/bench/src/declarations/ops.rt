@@ -4,7 +4,7 @@ ghost use Rattle.grammar.specs.Rules.{nets, inputs, outputs, pins, net_of, input
 ghost use Rattle.text.specs.Tokens.{names_left};
 ghost use Rattle.bench.specs.Statements.{said, AllStand};
 ghost use Rattle.text.specs.declared.fault.TextFault.TheVariants.{TooLong};
-ghost use Rattle.grammar.specs.Reading.{One-reading, One-statement, Reads};
+ghost use Rattle.grammar.specs.Reading.{OneReading, OneStatement, Reads};
 ghost use Rattle.bench.specs.SoFar.{items, declared, counts_of, Grows, Declares, ReadsLine, answer};
 
 use super::Declarations;
@@ -226,8 +226,8 @@ impl<'a> Declarations<'a> {
     pub fn read(&mut self, text: &'a [u8]) -> Result<(), StatementFault>
         ensures reads { Reads text.now (declared self.old) (answer result) (declared self.new) }
         ensures places { AllStand text.now (items self.old) → AllStand text.now (items self.new) }
-        ensures one_statement { One-statement }
-        ensures one_reading { One-reading }
+        ensures one_statement { OneStatement }
+        ensures one_reading { OneReading }
     {
         check_length(text)?;
         let mut reader = Reader::new(text);
