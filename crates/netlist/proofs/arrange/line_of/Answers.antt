@@ -18,14 +18,14 @@ returns-then-more-net c =
     let xs = c.list-declaration-items.result.now in
     let i = c.loop-declaration.declaration-index in
     let one = one_net (said (get_or xs i none).says) in
-    let more = c.defined-by-more.ensures in
+    let more = c.defined_by-more.ensures in
     line_next xs (declared d) (ap (map declaration) (sym c.list-declaration-items.ensures)) i none c.loop-declaration-test.true c.args.net (omega (arith, one, more, c.if-more-net.true, c.loop-declaration.invariant)) (omega (arith, more, c.if-more-net.true))
 
 pub loop-declaration-preserved : goal.loop-declaration-preserved
 loop-declaration-preserved c =
     let d = c.args.declarations.now in
     let next = nets_next c.list-declaration-items.result.now (declared d) (ap (map declaration) (sym c.list-declaration-items.ensures)) c.loop-declaration.declaration-index none c.loop-declaration-test.true in
-    (omega (arith, next, c.defined-by-more.ensures, c.loop-declaration.invariant.0), omega (arith, c.if-more-net.false, c.loop-declaration.invariant.1))
+    (omega (arith, next, c.defined_by-more.ensures, c.loop-declaration.invariant.0), omega (arith, c.if-more-net.false, c.loop-declaration.invariant.1))
 
 pub returns : goal.returns
 returns c =

@@ -15,13 +15,13 @@ named xs ys x n ns e f g =
 pub returns-in-Input : goal.returns-in-Input
 returns-in-Input c =
     record {
-      names = named (vec_items c.args.names.now) (vec_items c.push-reserved.new.self) c.of.result c.in-Input.name.bytes.now (net_of (said c.args.says)) c.push-reserved.ensures.items c.of.ensures (ap (λ (s : Statement). net_of (said s)) c.in-Input.is);
-      capacity = c.push-reserved.ensures.capacity;
+      names = named (vec_items c.args.names.now) (vec_items c.push_reserved.new.self) c.of.result c.in-Input.name.bytes.now (net_of (said c.args.says)) c.push_reserved.ensures.items c.of.ensures (ap (λ (s : Statement). net_of (said s)) c.in-Input.is);
+      capacity = c.push_reserved.ensures.capacity;
     }
 
 pub returns-in-Gate : goal.returns-in-Gate
 returns-in-Gate c =
     record {
-      names = named (vec_items c.args.names.now) (vec_items c.push-reserved-in-Gate.new.self) c.of-in-Gate.result c.in-Gate.name.bytes.now (net_of (said c.args.says)) c.push-reserved-in-Gate.ensures.items c.of-in-Gate.ensures (ap (λ (s : Statement). net_of (said s)) c.in-Gate.is);
-      capacity = c.push-reserved-in-Gate.ensures.capacity;
+      names = named (vec_items c.args.names.now) (vec_items c.push_reserved-in-Gate.new.self) c.of-in-Gate.result c.in-Gate.name.bytes.now (net_of (said c.args.says)) c.push_reserved-in-Gate.ensures.items c.of-in-Gate.ensures (ap (λ (s : Statement). net_of (said s)) c.in-Gate.is);
+      capacity = c.push_reserved-in-Gate.ensures.capacity;
     }

@@ -14,8 +14,8 @@ use Rattle.netlist.proofs.naming.copy_names.Goals as goal
 abbrev none : code.Declaration
 none = record { line = 0; says = Input (record { bytes = record { ref_ptr = (0, 0); now = [] }; at = 0 }) }
 
-pub add-name-requires : goal.add-name-requires
-add-name-requires c =
+pub add_name-requires : goal.add_name-requires
+add_name-requires c =
     let d = c.args.declarations.now in
     let e = ap (map declaration) (sym c.list-declaration-items.ensures) in
     let xs = c.list-declaration-items.result.now in
@@ -31,7 +31,7 @@ loop-declaration-preserved c =
     let d = c.args.declarations.now in
     let e = ap (map declaration) (sym c.list-declaration-items.ensures) in
     let next = names_next c.list-declaration-items.result.now (declared d) e c.loop-declaration.declaration-index none c.loop-declaration-test.true in
-    (c.add-name.ensures.names ∙ ap (λ (ns : List (List ℕ)). ns ++ net_of (said (get_or c.list-declaration-items.result.now c.loop-declaration.declaration-index none).says)) c.loop-declaration.invariant.0 ∙ sym next, omega (arith, c.add-name.ensures.capacity, c.loop-declaration.invariant.1))
+    (c.add_name.ensures.names ∙ ap (λ (ns : List (List ℕ)). ns ++ net_of (said (get_or c.list-declaration-items.result.now c.loop-declaration.declaration-index none).says)) c.loop-declaration.invariant.0 ∙ sym next, omega (arith, c.add_name.ensures.capacity, c.loop-declaration.invariant.1))
 
 pub returns : goal.returns
 returns c =

@@ -15,22 +15,22 @@ grown ps qs os f e = ap length e ∙ length-append ps (map f os) ∙ ap (λ (n :
 pub overflow-sub-count : goal.overflow-sub-count
 overflow-sub-count c =
     let t = c.args.tables.now in
-    let g = grown _ _ (names_left c.args.operands) (place_of (nets (declared c.args.declarations.now))) c.if-not-resolve-operands.ensures.resolves.1 in
-    omega (arith, g, c.len.ensures, c.len-first.ensures, t.pins.ok.0, c.resolve-operands.new.pins.ok.0)
+    let g = grown _ _ (names_left c.args.operands) (place_of (nets (declared c.args.declarations.now))) c.if-not-resolve_operands.ensures.resolves.1 in
+    omega (arith, g, c.len.ensures, c.len-first.ensures, t.pins.ok.0, c.resolve_operands.new.pins.ok.0)
 
 pub overflow-cast-count : goal.overflow-cast-count
 overflow-cast-count c =
     let t = c.args.tables.now in
-    let g = grown _ _ (names_left c.args.operands) (place_of (nets (declared c.args.declarations.now))) c.if-not-resolve-operands.ensures.resolves.1 in
-    omega (arith, g, c.len.ensures, c.len-first.ensures, t.pins.ok.0, c.resolve-operands.new.pins.ok.0, c.requires.pins)
+    let g = grown _ _ (names_left c.args.operands) (place_of (nets (declared c.args.declarations.now))) c.if-not-resolve_operands.ensures.resolves.1 in
+    omega (arith, g, c.len.ensures, c.len-first.ensures, t.pins.ok.0, c.resolve_operands.new.pins.ok.0, c.requires.pins)
 
 pub returns : goal.returns
 returns c =
     let t = c.args.tables.now in
-    let g = grown _ _ (names_left c.args.operands) (place_of (nets (declared c.args.declarations.now))) c.if-not-resolve-operands.ensures.resolves.1 in
-    let count : c.len.result - c.len-first.result ≡ length (names_left c.args.operands) = omega (arith, g, c.len.ensures, c.len-first.ensures, t.pins.ok.0, c.resolve-operands.new.pins.ok.0) in
+    let g = grown _ _ (names_left c.args.operands) (place_of (nets (declared c.args.declarations.now))) c.if-not-resolve_operands.ensures.resolves.1 in
+    let count : c.len.result - c.len-first.result ≡ length (names_left c.args.operands) = omega (arith, g, c.len.ensures, c.len-first.ensures, t.pins.ok.0, c.resolve_operands.new.pins.ok.0) in
     record {
-      resolves = c.if-not-resolve-operands.ensures.resolves;
-      nets = c.push-reserved.ensures.items ∙ ap (λ (x : ℕ). vec_items t.nets ++ Gate c.args.kind x (c.len.result - c.len-first.result) ∷ []) c.len-first.ensures ∙ ap (λ (x : ℕ). vec_items t.nets ++ Gate c.args.kind (vec_len t.pins) x ∷ []) count;
+      resolves = c.if-not-resolve_operands.ensures.resolves;
+      nets = c.push_reserved.ensures.items ∙ ap (λ (x : ℕ). vec_items t.nets ++ Gate c.args.kind x (c.len.result - c.len-first.result) ∷ []) c.len-first.ensures ∙ ap (λ (x : ℕ). vec_items t.nets ++ Gate c.args.kind (vec_len t.pins) x ∷ []) count;
       inputs = refl;
     }

@@ -16,8 +16,8 @@ use Rattle.netlist.proofs.resolve.lay_out.Goals as goal
 abbrev none : code.Declaration
 none = record { line = 0; says = Input (record { bytes = record { ref_ptr = (0, 0); now = [] }; at = 0 }) }
 
-pub lay-one-requires : goal.lay-one-requires
-lay-one-requires c =
+pub lay_one-requires : goal.lay_one-requires
+lay_one-requires c =
     let d = c.args.declarations.now in
     let same = c.list-declaration-items.ensures in
     let i = c.loop-declaration.declaration-index in
@@ -30,15 +30,15 @@ lay-one-requires c =
       fits = subst Q (sym same) (subst P (ap (λ (x : Declaration). x.says) (declared_at (items d) i none inside)) (fits_next (declared d) i (declaration none) c.loop-declaration.tables (omega (arith, inside, length-map (items d) declaration)) d.within c.requires.proper.all c.loop-declaration.invariant.0));
     }
 
-pub returns-then-not-lay-one : goal.returns-then-not-lay-one
-returns-then-not-lay-one c =
+pub returns-then-not-lay_one : goal.returns-then-not-lay_one
+returns-then-not-lay_one c =
     let d = c.args.declarations.now in
-    first_undefined c.list-declaration-items.result.now (declared d) (ap (map declaration) (sym c.list-declaration-items.ensures)) c.loop-declaration.declaration-index none c.loop-declaration-test.true pins_of c.loop-declaration.invariant.1 c.if-not-lay-one.ensures
+    first_undefined c.list-declaration-items.result.now (declared d) (ap (map declaration) (sym c.list-declaration-items.ensures)) c.loop-declaration.declaration-index none c.loop-declaration-test.true pins_of c.loop-declaration.invariant.1 c.if-not-lay_one.ensures
 
 pub loop-declaration-preserved : goal.loop-declaration-preserved
 loop-declaration-preserved c =
     let d = c.args.declarations.now in
-    next_laid c.list-declaration-items.result.now (declared d) (ap (map declaration) (sym c.list-declaration-items.ensures)) c.loop-declaration.declaration-index none c.loop-declaration-test.true (nets (declared d)) c.loop-declaration.tables c.lay-one.new.tables c.loop-declaration.invariant c.if-not-lay-one.ensures
+    next_laid c.list-declaration-items.result.now (declared d) (ap (map declaration) (sym c.list-declaration-items.ensures)) c.loop-declaration.declaration-index none c.loop-declaration-test.true (nets (declared d)) c.loop-declaration.tables c.lay_one.new.tables c.loop-declaration.invariant c.if-not-lay_one.ensures
 
 pub returns : goal.returns
 returns c =

@@ -15,22 +15,22 @@ use Rattle.netlist.proofs.resolve.list_outputs.Goals as goal
 abbrev none : code.Declaration
 none = record { line = 0; says = Input (record { bytes = record { ref_ptr = (0, 0); now = [] }; at = 0 }) }
 
-pub list-one-requires : goal.list-one-requires
-list-one-requires c =
+pub list_one-requires : goal.list_one-requires
+list_one-requires c =
     let d = c.args.declarations.now in
     let limits = within_limits_lem (declared d) d.within in
     let room = output_room c.list-declaration-items.result.now (declared d) (ap (map declaration) (sym c.list-declaration-items.ensures)) c.loop-declaration.declaration-index none c.loop-declaration-test.true (nets (declared d)) (vec_items c.loop-declaration.outputs) limits.3 c.loop-declaration.invariant.0.0 in
     record { distinct = c.requires.proper.distinct; few = limits.0; room = omega (arith, room, c.loop-declaration.invariant.1, c.requires.room, c.loop-declaration.outputs.ok.0) }
 
-pub returns-then-not-list-one : goal.returns-then-not-list-one
-returns-then-not-list-one c =
+pub returns-then-not-list_one : goal.returns-then-not-list_one
+returns-then-not-list_one c =
     let d = c.args.declarations.now in
-    first_undefined c.list-declaration-items.result.now (declared d) (ap (map declaration) (sym c.list-declaration-items.ensures)) c.loop-declaration.declaration-index none c.loop-declaration-test.true output_of c.loop-declaration.invariant.0.1 c.if-not-list-one.ensures.resolves
+    first_undefined c.list-declaration-items.result.now (declared d) (ap (map declaration) (sym c.list-declaration-items.ensures)) c.loop-declaration.declaration-index none c.loop-declaration-test.true output_of c.loop-declaration.invariant.0.1 c.if-not-list_one.ensures.resolves
 
 pub loop-declaration-preserved : goal.loop-declaration-preserved
 loop-declaration-preserved c =
     let d = c.args.declarations.now in
-    (next_listed c.list-declaration-items.result.now (declared d) (ap (map declaration) (sym c.list-declaration-items.ensures)) c.loop-declaration.declaration-index none c.loop-declaration-test.true (nets (declared d)) (vec_items c.loop-declaration.outputs) (vec_items c.list-one.new.outputs) c.loop-declaration.invariant.0 c.if-not-list-one.ensures.resolves, c.if-not-list-one.ensures.capacity ∙ c.loop-declaration.invariant.1)
+    (next_listed c.list-declaration-items.result.now (declared d) (ap (map declaration) (sym c.list-declaration-items.ensures)) c.loop-declaration.declaration-index none c.loop-declaration-test.true (nets (declared d)) (vec_items c.loop-declaration.outputs) (vec_items c.list_one.new.outputs) c.loop-declaration.invariant.0 c.if-not-list_one.ensures.resolves, c.if-not-list_one.ensures.capacity ∙ c.loop-declaration.invariant.1)
 
 pub returns : goal.returns
 returns c =

@@ -6,8 +6,8 @@ pub invariant-of-result : goal.invariant-of-result
 invariant-of-result c =
     let name = c.args.name.now in
     let zeros : List ℕ = replicate 16 0 in
-    (length-append c.copy-from-slice.new.self (drop (length name) zeros) ∙ omega (arith, ap length c.copy-from-slice.ensures.after, length-drop (length name) zeros, c.requires), (c.requires, tt))
+    (length-append c.copy_from_slice.new.self (drop (length name) zeros) ∙ omega (arith, ap length c.copy_from_slice.ensures.after, length-drop (length name) zeros, c.requires), (c.requires, tt))
 
 pub returns : goal.returns
 returns c =
-    take_at c.copy-from-slice.new.self (drop (length c.args.name.now) (replicate 16 0)) (length c.args.name.now) (ap length c.copy-from-slice.ensures.after) ∙ c.copy-from-slice.ensures.after
+    take_at c.copy_from_slice.new.self (drop (length c.args.name.now) (replicate 16 0)) (length c.args.name.now) (ap length c.copy_from_slice.ensures.after) ∙ c.copy_from_slice.ensures.after
