@@ -1,5 +1,5 @@
 -- Roth's five values: a result is the symbol of the one pair that comes out, or X where several do.
-use Rattle.std.specs.Prelude.{Bool, true, false, not, ◌&&◌, ◌||◌, cond, ℕ, eqb}
+use Rattle.std.specs.Prelude.{Bool, true, false, not, ◌&&◌, ◌||◌, cond, eqb}
 use Rattle.model.specs.Bits.{bit, differ}
 use Rattle.model.specs.Pairs.{Pairs, only, size, image, image2}
 use Rattle.model.specs.Operations.{Ops}

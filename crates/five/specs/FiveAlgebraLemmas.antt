@@ -1,3 +1,4 @@
+-- Tests at all five values: what the proofs of the laws in src/lib.rt run. No contract cites them.
 use Rattle.std.specs.Prelude.{◌≡◌, Bool, true, ◌&&◌}
 use Rattle.model.proofs.Finite.{Finite, left, right}
 use Rattle.five.specs.declared.Five.{Five}
