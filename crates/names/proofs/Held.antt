@@ -1,6 +1,6 @@
 -- The names that a table holds.
-use Rattle.std.proofs.Common.{◌≡◌, ℕ, ◌<◌, List, [], length, get_or, vec_items, vec_len, sym, ◌∙◌}
-use Rattle.std.proofs.lemmas.List.{length-map, get_or-map}
+use Rattle.std.proofs.Common.{◌≡◌, length, vec_items, vec_len, sym, ◌∙◌}
+use Rattle.std.proofs.lemmas.List.{length-map}
 use Rattle.names.specs.declared.table.Names.{Names}
 use Rattle.names.specs.Tables.{bytes_of, held}
 

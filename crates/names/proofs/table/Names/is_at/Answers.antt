@@ -6,9 +6,6 @@ use Rattle.names.proofs.Held.{held_length}
 use Rattle.names.proofs.table.Names.is_at.Goals as goal
 use Rattle.std.proofs.lemmas.Bool.Decides.{Decides-eqb}
 
-pub index-requires : goal.index-requires
-index-requires c = omega (arith, held_length c.args.self.now)
-
 pub returns : goal.returns
 returns c =
     let t = c.args.self.now in

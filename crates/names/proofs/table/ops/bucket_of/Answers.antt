@@ -5,5 +5,5 @@ use Rattle.names.proofs.table.ops.bucket_of.Goals as goal
 pub loop-b-preserved : goal.loop-b-preserved
 loop-b-preserved c = search (rules, bucket_more)
 
-pub returns : goal.returns
-returns c = search (rules, bucket_all)
+pub returns-clause-value : goal.returns-clause-value
+returns-clause-value c = search (rules, bucket_all)
