@@ -1,7 +1,7 @@
 -- An order, and the tests that say so: each net may follow those before it, and every net is listed.
 use Rattle.std.proofs.Common.{◌≡◌, ℕ, zero, suc, ◌<◌, ◌≤◌, true, false, cond, not, ◌&&◌, eqb, ltb, List, [], ◌∷◌, length, get_or, take, sym, refl, ap, ◌∙◌, subst, ⊎_elim, arith}
 use Rattle.std.proofs.lemmas.List.{get_or-take, length-take-le}
-use Rattle.std.proofs.lemmas.Bool.{cases_eq, cases_lt, cases_Bool, lt-ltb, ltb-true, eq-eqb, ne_eqb, cond-true, cond-false, eqb-true, and_parts, and_from, or_cases, or_left, or_right, not_true, not_from_false, both_ways}
+use Rattle.std.proofs.lemmas.Bool.{cases_eq, cases_lt, cases_Bool, lt-ltb, ltb-true, eq-eqb, ne_eqb, cond-true, cond-false, eqb-true, and_parts, and_from, or_cases, or_left, or_right, not-true, not_from_false, both_ways}
 use Rattle.circuit.specs.Circuit.{Cell, operands_at}
 use Rattle.circuit.specs.Circles.{Sorted}
 use Rattle.circuit.specs.Listed.{listed_in, all_listed, Follows, Complete}
@@ -73,7 +73,7 @@ module _ (cells : List Cell) (order : List ℕ) where
   follow_parts follows p lt =
       let (ab, c) = and_parts (ltb (get_or order p 0) (length cells) && not (listed_in (get_or order p 0) (take p order))) (all_listed (operands_at cells (get_or order p 0)) (take p order)) (follows p lt) in
       let (a, b) = and_parts (ltb (get_or order p 0) (length cells)) (not (listed_in (get_or order p 0) (take p order))) ab in
-      (ltb-true (get_or order p 0) (length cells) a, not_true (listed_in (get_or order p 0) (take p order)) b, c)
+      (ltb-true (get_or order p 0) (length cells) a, not-true (listed_in (get_or order p 0) (take p order)) b, c)
 
   pub listed_sorted : length order ≡ length cells → Follows cells order → Complete cells order → Sorted cells order
   listed_sorted size follows complete = record {

@@ -6,7 +6,7 @@ use Rattle.walk.proofs.Circle.{sorted_free}
 use Rattle.walk.proofs.Walking.{all_done}
 use Rattle.walk.proofs.Whole.{fresh, done_or_new, first_found, next_done}
 use Rattle.order.proofs.arrange.Goals as goal
-use Rattle.order.proofs.arrange.Goals.{in-New+else-follow, in-default}
+use Rattle.order.proofs.arrange.Goals.{in-New+else-follow, in_default}
 
 pub loop-mark-preserved : goal.loop-mark-preserved
 loop-mark-preserved c =
@@ -39,8 +39,8 @@ loop-k-preserved c =
           let after = w.if-follow.ensures.walk in
           let more = next_done _ _ (vec_items w.follow.new.order) _ w.follow.new.marks c.loop-k.k (ap vec_items w.order-is) w.marks-is after.0 (λ j less. after.2 j (c.loop-k.invariant.1 j less)) after.1 in
           (more.0, more.1, omega (arith, ap vec_capacity w.order-is, w.if-follow.ensures.capacity, c.loop-k.invariant.2)))
-      | in-default w ↦ (
-          let done = done_or_new _ _ c.loop-k.marks c.loop-k.k c.loop-k.invariant.0 w.in-default.not-New in
+      | in_default w ↦ (
+          let done = done_or_new _ _ c.loop-k.marks c.loop-k.k c.loop-k.invariant.0 w.in_default.not-New in
           let more = next_done _ _ _ _ _ c.loop-k.k (ap vec_items w.order-is) w.marks-is c.loop-k.invariant.0 c.loop-k.invariant.1 done in
           (more.0, more.1, omega (arith, ap vec_capacity w.order-is, c.loop-k.invariant.2)))
     ]

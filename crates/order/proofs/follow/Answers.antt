@@ -19,28 +19,28 @@ walk-init c =
       length-set c.args.marks.now c.args.start _ ∙ size,
     )
 
-pub left-at-left-requires : goal.left-at-left-requires
-left-at-left-requires c = record { net = omega (arith, c.walk.invariant.3, c.walk.invariant.4); opened = is_open c.walk.invariant.0 }
+pub left_at-left-requires : goal.left_at-left-requires
+left_at-left-requires c = record { net = omega (arith, c.walk.invariant.3, c.walk.invariant.4); opened = is_open c.walk.invariant.0 }
 
-pub push-reserved-requires : goal.push-reserved-requires
-push-reserved-requires c = omega (arith, order_lacks c.walk.invariant.0, c.requires.capacity, c.walk.invariant.2, cells_size c.args.nets.now c.args.pins.now)
+pub push_reserved-requires : goal.push_reserved-requires
+push_reserved-requires c = omega (arith, order_lacks c.walk.invariant.0, c.requires.capacity, c.walk.invariant.2, cells_size c.args.nets.now c.args.pins.now)
 
 pub returns-in-None : goal.returns-in-None
 returns-in-None c = record {
-  walk = ends c.walk.invariant.0 c.left-at-left.ensures (omega arith) c.push-reserved.ensures.items c.args.marks.now c.in-None.ensures.0
+  walk = ends c.walk.invariant.0 c.left_at-left.ensures (omega arith) c.push_reserved.ensures.items c.args.marks.now c.in-None.ensures.0
       (opening c.args.marks.now c.args.start c.count.result c.requires.new);
-  capacity = c.push-reserved.ensures.capacity ∙ c.walk.invariant.2;
+  capacity = c.push_reserved.ensures.capacity ∙ c.walk.invariant.2;
 }
 
 pub walk-smaller-in-Some : goal.walk-smaller-in-Some
-walk-smaller-in-Some c = lighter c.walk.marks c.walk.net Done (omega (arith, c.walk.invariant.3, c.walk.invariant.4)) c.left-at-left.ensures (omega arith)
+walk-smaller-in-Some c = lighter c.walk.marks c.walk.net Done (omega (arith, c.walk.invariant.3, c.walk.invariant.4)) c.left_at-left.ensures (omega arith)
 
 pub walk-preserved-in-Some : goal.walk-preserved-in-Some
 walk-preserved-in-Some c =
-    let after = leaves c.walk.invariant.0 c.left-at-left.ensures (omega arith) c.push-reserved.ensures.items c.in-Some.ensures.0 in (
+    let after = leaves c.walk.invariant.0 c.left_at-left.ensures (omega arith) c.push_reserved.ensures.items c.in-Some.ensures.0 in (
       after,
       omega (arith, c.in-Some.ensures.1, c.walk.invariant.1),
-      c.push-reserved.ensures.capacity ∙ c.walk.invariant.2,
+      c.push_reserved.ensures.capacity ∙ c.walk.invariant.2,
       omega (arith, is_marked after, length-set c.walk.marks c.walk.net Done, c.walk.invariant.4),
       length-set c.walk.marks c.walk.net Done ∙ c.walk.invariant.4,
     )
@@ -49,7 +49,7 @@ pub operand-read-requires : goal.operand-read-requires
 operand-read-requires c = record {
   net = c.walk.invariant.3;
   formed = c.requires.formed;
-  place = omega (arith, looks c.walk.invariant.0 c.left-at-left.ensures (λ none. omega arith));
+  place = omega (arith, looks c.walk.invariant.0 c.left_at-left.ensures (λ none. omega arith));
 }
 
 pub unwrap-requires : goal.unwrap-requires
@@ -65,7 +65,7 @@ pub walk-preserved-in-New : goal.walk-preserved-in-New
 walk-preserved-in-New c =
     let within : c.operand-read.result < length c.walk.marks = omega (arith, c.operand-read.ensures.net, c.walk.invariant.4) in
     let (pushed, same-room) = lies c.walk.path c.push.new.self c.walk.net c.push.result (omega (arith, path_lacks c.walk.invariant.0 within c.in-New.is, c.walk.invariant.1, cells_size c.args.nets.now c.args.pins.now)) c.push.ensures in (
-      deepens c.walk.invariant.0 c.left-at-left.ensures (λ none. omega arith) c.operand-read.ensures.value c.in-New.is within pushed c.count-in-New.ensures.value,
+      deepens c.walk.invariant.0 c.left_at-left.ensures (λ none. omega arith) c.operand-read.ensures.value c.in-New.is within pushed c.count-in-New.ensures.value,
       omega (arith, same-room, c.walk.invariant.1),
       c.walk.invariant.2,
       c.operand-read.ensures.net,
@@ -74,17 +74,17 @@ walk-preserved-in-New c =
 
 pub returns-in-Open : goal.returns-in-Open
 returns-in-Open c = record {
-  walk = meets c.walk.invariant.0 c.left-at-left.ensures (λ none. omega arith) c.operand-read.ensures.value c.in-Open.is;
+  walk = meets c.walk.invariant.0 c.left_at-left.ensures (λ none. omega arith) c.operand-read.ensures.value c.in-Open.is;
   capacity = c.walk.invariant.2;
 }
 
 pub walk-smaller : goal.walk-smaller
 walk-smaller c =
-    lighter c.walk.marks c.walk.net (Open (c.left-at-left.result - 1)) (omega (arith, c.walk.invariant.3, c.walk.invariant.4)) c.left-at-left.ensures (omega arith)
+    lighter c.walk.marks c.walk.net (Open (c.left_at-left.result - 1)) (omega (arith, c.walk.invariant.3, c.walk.invariant.4)) c.left_at-left.ensures (omega arith)
 
 pub walk-preserved : goal.walk-preserved
 walk-preserved c = (
-  passes c.walk.invariant.0 c.left-at-left.ensures (λ none. omega arith) c.operand-read.ensures.value c.in-Done.is,
+  passes c.walk.invariant.0 c.left_at-left.ensures (λ none. omega arith) c.operand-read.ensures.value c.in-Done.is,
   c.walk.invariant.1,
   c.walk.invariant.2,
   c.walk.invariant.3,
