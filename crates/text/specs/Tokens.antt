@@ -1,5 +1,5 @@
 -- What a window on a line hands out.
-use Rattle.std.specs.Prelude.{◌≡◌, ℕ, ◌<◌, ◌≤◌, false, List, [], ◌∷◌, length, take, drop, Some, None, Option}
+use Rattle.std.specs.Prelude.{◌≡◌, ℕ, ◌<◌, ◌≤◌, false, List, [], ◌∷◌, length, drop, Some, None, Option}
 use Rattle.names.specs.declared.name.Name.{Name}
 use Rattle.names.specs.Places.{Stands}
 use Rattle.grammar.specs.Grammar.{name, sign}

@@ -1,5 +1,5 @@
 -- What a window on a text hands out.
-use Rattle.std.specs.Prelude.{◌≡◌, ℕ, ◌+◌, ◌<◌, List, [], ◌∷◌, length, drop, Some, None, Option}
+use Rattle.std.specs.Prelude.{◌≡◌, ℕ, ◌+◌, ◌<◌, List, [], ◌∷◌, drop, Some, None, Option}
 use Rattle.names.specs.declared.name.Name.{Name}
 use Rattle.names.specs.Places.{Stands}
 use Rattle.grammar.specs.Lines.{lines}

@@ -24,7 +24,7 @@ fn line_end(text: &[u8], at: usize) -> usize
 fn next_start(text: &[u8], end: usize) -> usize
     requires { end ≤ length text.now }
     ensures within { result ≤ length text.now }
-    ensures behind { ((end < length text.now → result ≡ end + 1)) × ((length text.now ≡ end → result ≡ end)) }
+    ensures behind { (end < length text.now → result ≡ end + 1) × (length text.now ≡ end → result ≡ end) }
 {
     if end < text.len() { end + 1 } else { end }
 }

@@ -4,13 +4,13 @@ use Rattle.text.specs.Windows.{bytes}
 use Rattle.text.proofs.Told.{told, long_told}
 use Rattle.text.proofs.shape.ops.read_text.Goals as goal
 
-pub returns-in-default : goal.returns-in-default
-returns-in-default c = (refl, no_statement_from (bytes c.args.line) c.in-default.ensures.says)
+pub returns-in_default : goal.returns-in_default
+returns-in_default c = (refl, no_statement_from (bytes c.args.line) c.in_default.ensures.says)
 
-pub returns-then-has-long-name : goal.returns-then-has-long-name
-returns-then-has-long-name c =
-    (refl, long_told (bytes c.args.line) c.in-Some.shape c.in-Some.ensures.says (sym c.if-has-long-name.ensures))
+pub returns-then-has_long_name : goal.returns-then-has_long_name
+returns-then-has_long_name c =
+    (refl, long_told (bytes c.args.line) c.in-Some.shape c.in-Some.ensures.says (sym c.if-has_long_name.ensures))
 
 pub returns : goal.returns
 returns c =
-    told c.args.line c.in-Some.shape c.in-Some.ensures.says c.in-Some.ensures.placed (sym c.if-has-long-name.ensures)
+    told c.args.line c.in-Some.shape c.in-Some.ensures.says c.in-Some.ensures.placed (sym c.if-has_long_name.ensures)
