@@ -1,5 +1,5 @@
 -- Three-valued logic: 0, 1, and X for either bit.
-use Rattle.std.specs.Prelude.{ℕ, zero, suc, Bool, true, false, cond, not}
+use Rattle.std.specs.Prelude.{ℕ, zero, suc, Bool, true, cond, not}
 use Rattle.nine.specs.declared.three.Three.{Three}
 use Rattle.nine.specs.declared.three.Three.TheVariants.{Zero, One, X}
 

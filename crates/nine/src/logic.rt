@@ -3,7 +3,7 @@ ghost use Rattle.std.specs.Prelude.{◌≡◌, ◌<◌, refl};
 ghost use Rattle.nine.specs.Nine.{value, sides, gate3, nine_meaning, nine_ops, nine_words, nine_search, nine_pairs, nine_constant};
 ghost use Rattle.model.proofs.OneLane.{operation_laws, word_laws};
 ghost use Rattle.nine.specs.NineValues.{nines};
-ghost use Rattle.std.proofs.Common.{rules, arith};
+ghost use Rattle.std.proofs.Common.{rules};
 
 use crate::three::Three;
 use crate::{Nine, table};
@@ -46,7 +46,7 @@ impl Algebra for Nine {
 
     ghost words = { nine_words };
 
-    ghost lanes = { first_of (Prim.search rules, Prim.grind (arith, Self.row.coded.inj)) };
+    ghost lanes = { Prim.search rules };
 
     ghost operations = { operation_laws nines nine_pairs nine_constant nine_ops
         (record { nonempty = refl; loads = λ w. refl; load = refl; inv = refl; and = refl; or = refl; xor = refl; stuck = refl }) };
@@ -102,7 +102,7 @@ impl Algebra for Nine {
 impl SearchAlgebra for Nine {
     ghost searching = { nine_search };
 
-    ghost searches = { first_of (Prim.search rules, Prim.grind (arith, Self.row.coded.inj)) };
+    ghost searches = { Prim.search rules };
 
     fn unknown() -> Nine {
         Nine { number: 8 } // (X, X)
