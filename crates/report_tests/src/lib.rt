@@ -16,7 +16,7 @@ mod tests {
             layer: Layer::Statement,
         };
         assert_eq!(rt; refusal_line(&mut out, refusal).ok(), Some(28));
-        assert!(rt; &out[..] == b"refused 10 line 3 statement\n..");
+        assert!(rt; &out[..] == b"refused 10 line 3 statement\n..".as_slice());
     }
 
     #[test]
@@ -29,7 +29,7 @@ mod tests {
             pins: 65536,
         };
         assert_eq!(rt; counts_line(&mut out, counts).ok(), Some(46));
-        assert!(rt; &out[..] == b"nets 4294967295 inputs 0 outputs 9 pins 65536\n");
+        assert!(rt; &out[..] == b"nets 4294967295 inputs 0 outputs 9 pins 65536\n".as_slice());
     }
 
     #[test]
@@ -41,6 +41,6 @@ mod tests {
             layer: Layer::Host,
         };
         assert!(rt; refusal_line(&mut out, refusal).is_err());
-        assert!(rt; &out[..] == b"......................");
+        assert!(rt; &out[..] == b"......................".as_slice());
     }
 }

@@ -13,8 +13,8 @@ chained_as keys count {first} {next} {xs} {ys} p q h =
 pub link-requires : goal.link-requires
 link-requires c =
     let none = length c.args.keys.now in
-    let first = c.as-mut-slice.ensures.value ∙ c.in-ok-first.ensures.items-if-clones-equal (λ y e. e) in
-    let next = c.as-mut-slice-2.ensures.value ∙ c.in-ok-next.ensures.items-if-clones-equal (λ y e. e) in
+    let first = c.as_mut_slice.ensures.value ∙ c.in_ok-first.ensures.items_if_clones_equal (λ y e. e) in
+    let next = c.as_mut_slice-2.ensures.value ∙ c.in_ok-next.ensures.items_if_clones_equal (λ y e. e) in
     let size = ap length first ∙ length-replicate c.args.count none in
     record {
       few = c.requires.few;
@@ -27,14 +27,14 @@ pub returns : goal.returns
 returns c =
     let keys = c.args.keys.now in
     let none = length keys in
-    let v = c.in-ok-first.first in
-    let w = c.in-ok-next.next in
+    let v = c.in_ok-first.first in
+    let w = c.in_ok-next.next in
     let first = c.link.new.first in
     let next = c.link.new.next in
-    let made = c.as-mut-slice.ensures.value ∙ c.in-ok-first.ensures.items-if-clones-equal (λ y e. e) in
-    let made₂ = c.as-mut-slice-2.ensures.value ∙ c.in-ok-next.ensures.items-if-clones-equal (λ y e. e) in
+    let made = c.as_mut_slice.ensures.value ∙ c.in_ok-first.ensures.items_if_clones_equal (λ y e. e) in
+    let made₂ = c.as_mut_slice-2.ensures.value ∙ c.in_ok-next.ensures.items_if_clones_equal (λ y e. e) in
     let size : length first ≡ c.args.count = omega (arith, c.link.auto.first, ap length made, length-replicate c.args.count none) in
     let size₂ : length next ≡ none = omega (arith, c.link.auto.next, ap length made₂, length-replicate none none) in
-    let long : length first ≡ v.len = omega (arith, c.link.auto.first, ap length c.as-mut-slice.ensures.value, v.ok.0) in
-    let long₂ : length next ≡ w.len = omega (arith, c.link.auto.next, ap length c.as-mut-slice-2.ensures.value, w.ok.0) in
+    let long : length first ≡ v.len = omega (arith, c.link.auto.first, ap length c.as_mut_slice.ensures.value, v.ok.0) in
+    let long₂ : length next ≡ w.len = omega (arith, c.link.auto.next, ap length c.as_mut_slice-2.ensures.value, w.ok.0) in
     chained_as keys c.args.count (with_items_is v first long) (with_items_is w next long₂) (record { keyed = size; sized = size₂; first_places = c.link.ensures.first; next_places = c.link.ensures.next })
