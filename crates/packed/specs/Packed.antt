@@ -1,6 +1,5 @@
 -- Packed values: two words whose low 64 bits are what the good and the faulty circuit carry in 64 lanes.
-use Rattle.std.specs.Prelude.{ℕ, ◌-◌, ◌%◌, ◌^◌, Bool, cond, bit_xor}
-use Rattle.std.specs.Int.Bits.{bit_and, bit_or}
+use Rattle.std.specs.Prelude.{ℕ, ◌-◌, ◌%◌, ◌^◌, cond, bit_and, bit_or, bit_xor}
 use Rattle.model.specs.Bits.{bit}
 use Rattle.model.specs.Pairs.{only}
 use Rattle.model.specs.Operations.{Ops}

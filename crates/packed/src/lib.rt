@@ -1,18 +1,10 @@
 // Packed values: 64 decided lanes in two words.
 #![tactic(auto)]
 
-ghost use Rattle.std.specs.Prelude.{◌≡◌, ◌^◌, ◌&&◌, ◌||◌, refl};
-ghost use Rattle.std.proofs.Common.{◌∙◌, lit<, lit≤, rules};
+ghost use Rattle.std.specs.Prelude.{◌≡◌};
 ghost use Rattle.packed.specs.Packed.{packed, packed_meaning, packed_ops, packed_words};
-ghost use Rattle.std.proofs.Math.Bool;
-ghost use Rattle.model.specs.Bits.{differ};
-ghost use Rattle.model.proofs.Words.{bit-bit_and, bit-bit_or, bit-bit_xor, bit_flip, bit_low};
-ghost use Rattle.model.proofs.DecidedLanes.{nonempty, unary, binary};
-ghost use Rattle.packed.specs.PackedAlgebraLemmas;
-ghost use Rattle.packed.specs.PackedAlgebraLemmas.{stuck_bit};
-ghost use Rattle.std.specs.Int.Bits.{bit_xor};
-ghost use Rattle.std.proofs.lemmas.Nat.{mod_below};
-ghost use Rattle.model.proofs.DecidedLanes;
+ghost use Rattle.packed.specs.PackedAlgebraLemmas.{packed_operation_laws, packed_word_laws};
+ghost use Rattle.std.proofs.Common.{rules};
 
 use signal::Algebra;
 use signal::lanes::Lanes;
@@ -45,24 +37,9 @@ impl Algebra for Packed {
 
     ghost lanes = { Prim.search rules };
 
-    ghost operations = { record {
-      some_lane = lit< tt;
-      few_lanes = lit≤ tt;
-      nonempty = λ v i l. nonempty 64 PackedAlgebraLemmas.good PackedAlgebraLemmas.faulty v i;
-      load = λ w i l g f. refl;
-      inv = unary 64 PackedAlgebraLemmas.good PackedAlgebraLemmas.faulty Bool.not Bool.not packed_ops.inv (λ v. bit_flip v.good) (λ v. bit_flip v.faulty);
-      and = binary 64 PackedAlgebraLemmas.good PackedAlgebraLemmas.faulty ◌&&◌ packed_ops.and (λ u v. bit-bit_and u.good v.good) (λ u v. bit-bit_and u.faulty v.faulty);
-      or = binary 64 PackedAlgebraLemmas.good PackedAlgebraLemmas.faulty ◌||◌ packed_ops.or (λ u v. bit-bit_or u.good v.good) (λ u v. bit-bit_or u.faulty v.faulty);
-      xor = binary 64 PackedAlgebraLemmas.good PackedAlgebraLemmas.faulty differ packed_ops.xor (λ u v. bit-bit_xor u.good v.good) (λ u v. bit-bit_xor u.faulty v.faulty);
-      stuck = λ b. unary 64 PackedAlgebraLemmas.good PackedAlgebraLemmas.faulty (λ g. g) (λ _. b) (packed_ops.stuck b) (λ v i l. refl) (λ v. stuck_bit b);
-    } };
+    ghost operations = { packed_operation_laws };
 
-    ghost reading = { record {
-      difference = DecidedLanes.word 64 PackedAlgebraLemmas.good PackedAlgebraLemmas.faulty differ packed_words.difference
-          (λ v i l. bit_low (bit_xor v.good v.faulty) i l ∙ bit-bit_xor v.good v.faulty i)
-          (λ v. mod_below _ (2 ^ 64) (lit< tt));
-      good = DecidedLanes.word 64 PackedAlgebraLemmas.good PackedAlgebraLemmas.faulty (λ g _. g) packed_words.good (λ v. bit_low v.good) (λ v. mod_below _ (2 ^ 64) (lit< tt));
-    } };
+    ghost reading = { packed_word_laws };
 
     fn load(word: u64) -> Packed {
         Packed {

@@ -54,6 +54,7 @@ pub trait Algebra: Copy {
     fn good(self) -> u64
         ensures ones { result ≡ words.good self };
 
+    // The laws, which each impl proves; as such they stand below the last function.
     ghost lanes: { meaning.lanes ≡ Self.Width.Count.amount };
 
     ghost operations: { OperationLaws meaning ops };
@@ -74,6 +75,7 @@ pub trait SearchAlgebra: Algebra {
     fn may_differ(self) -> bool
         ensures possible { result ≡ searching.may_differ self };
 
+    // The law, below the last function.
     ghost searches: { SearchLaws Self.Algebra.meaning searching };
 }
 

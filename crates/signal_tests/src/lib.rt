@@ -11,7 +11,7 @@ pub mod pair;
 
 // A word with a 1 for each lane.
 pub fn lane_mask<A: Algebra>() -> u64
-    ensures mask { result ≡ 2 ^ meaning.lanes - 1 }
+    ensures mask { result ≡ 2 ^ A.meaning.lanes - 1 }
 {
     u64::MAX >> (64 - A::LANES.get())
 }

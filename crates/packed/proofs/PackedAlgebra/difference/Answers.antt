@@ -1,5 +1,5 @@
-use Rattle.std.proofs.Common.{◌^◌, ◌<◌, arith, rules}
-use lib.Bits.{bit_xor, xor_lt}
+use Rattle.std.proofs.Common.{◌^◌, ◌<◌, bit_xor, arith, rules}
+use Rattle.std.proofs.lemmas.Nat.{xor_lt}
 use Rattle.packed.proofs.PackedAlgebra.difference.Goals as goal
 
 pub returns : goal.returns
