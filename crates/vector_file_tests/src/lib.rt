@@ -20,7 +20,7 @@ mod tests {
         ];
         let mut out = [46u8; 10];
         assert_eq!(rt; write_file(2, 1, &deck, &mut out).ok(), Some(8));
-        assert!(rt; &out[..] == b"\x01\x02\x01\x02\x02\x00\x01\x01..");
+        assert!(rt; &out[..] == b"\x01\x02\x01\x02\x02\x00\x01\x01..".as_slice());
     }
 
     #[test]
@@ -32,7 +32,8 @@ mod tests {
         let mut out = [46u8; 17];
         assert_eq!(rt; write_file(127, 128, &deck, &mut out).ok(), Some(17));
         assert!(rt;
-            &out[..] == b"\x01\x7f\x80\x01\x01\xac\x02\xff\xff\xff\xff\xff\xff\xff\xff\xff\x01"
+            &out[..]
+                == b"\x01\x7f\x80\x01\x01\xac\x02\xff\xff\xff\xff\xff\xff\xff\xff\xff\x01".as_slice()
         );
     }
 
@@ -40,6 +41,6 @@ mod tests {
     fn a_byte_too_short_stays(rt: HostRuntime) {
         let mut out = [46u8; 3];
         assert!(rt; write_file(0, 0, &[], &mut out).is_err());
-        assert!(rt; &out[..] == b"...");
+        assert!(rt; &out[..] == b"...".as_slice());
     }
 }

@@ -8,32 +8,32 @@ use Rattle.vector_file.proofs.Rooms.{fits_left, over_left, fits_within, over_wit
 use Rattle.vector_file.proofs.Splits.{entry_bytes, blank, file_size}
 use Rattle.vector_file.proofs.file.file_length.Goals as goal
 
-pub returns-in-err-left : goal.returns-in-err-left
-returns-in-err-left c =
+pub returns-in_err-left : goal.returns-in_err-left
+returns-in_err-left c =
     let h = ap (λ ns. length (numbers_bytes ns)) c.header.ensures in
     let s = file_size c.args.inputs c.args.outputs c.args.deck.now in
-    let o = over_left (numbers_bytes c.header.result) c.args.room c.in-err-left.ensures in
-    c.from-residual.ensures ∙ over_within (file_bytes c.args.inputs c.args.outputs c.args.deck.now) c.args.room (omega arith)
+    let o = over_left (numbers_bytes c.header.result) c.args.room c.in_err-left.ensures in
+    c.from_residual.ensures ∙ over_within (file_bytes c.args.inputs c.args.outputs c.args.deck.now) c.args.room (omega arith)
 
 pub loop-entry-init : goal.loop-entry-init
 loop-entry-init c =
     let h = ap (λ ns. length (numbers_bytes ns)) c.header.ensures in
     let s = file_size c.args.inputs c.args.outputs c.args.deck.now in
-    let f = fits_left (numbers_bytes c.header.result) c.args.room c.in-ok-left.left c.in-ok-left.ensures in
+    let f = fits_left (numbers_bytes c.header.result) c.args.room c.in_ok-left.left c.in_ok-left.ensures in
     (omega arith, omega arith)
 
-pub returns-in-err-left-2 : goal.returns-in-err-left-2
-returns-in-err-left-2 c =
-    let h = ap (λ ns. length (numbers_bytes ns)) c.entry-numbers.ensures in
+pub returns-in_err-left-2 : goal.returns-in_err-left-2
+returns-in_err-left-2 c =
+    let h = ap (λ ns. length (numbers_bytes ns)) c.entry_numbers.ensures in
     let n = length-next entry_bytes blank c.args.deck.now c.loop-entry.entry-index c.loop-entry-test.true in
-    let o = over_left (numbers_bytes c.entry-numbers.result) c.loop-entry.left c.in-err-left-2.ensures in
-    c.from-residual-in-err-left-2.ensures ∙ over_within (file_bytes c.args.inputs c.args.outputs c.args.deck.now) c.args.room (omega (arith, c.loop-entry.invariant.1))
+    let o = over_left (numbers_bytes c.entry_numbers.result) c.loop-entry.left c.in_err-left-2.ensures in
+    c.from_residual-in_err-left-2.ensures ∙ over_within (file_bytes c.args.inputs c.args.outputs c.args.deck.now) c.args.room (omega (arith, c.loop-entry.invariant.1))
 
 pub loop-entry-preserved : goal.loop-entry-preserved
 loop-entry-preserved c =
-    let h = ap (λ ns. length (numbers_bytes ns)) c.entry-numbers.ensures in
+    let h = ap (λ ns. length (numbers_bytes ns)) c.entry_numbers.ensures in
     let n = length-next entry_bytes blank c.args.deck.now c.loop-entry.entry-index c.loop-entry-test.true in
-    let f = fits_left (numbers_bytes c.entry-numbers.result) c.loop-entry.left c.in-ok-left-2.left c.in-ok-left-2.ensures in
+    let f = fits_left (numbers_bytes c.entry_numbers.result) c.loop-entry.left c.in_ok-left-2.left c.in_ok-left-2.ensures in
     (omega (arith, c.loop-entry.invariant.0), omega (arith, c.loop-entry.invariant.1))
 
 pub returns : goal.returns

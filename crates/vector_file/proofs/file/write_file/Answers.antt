@@ -9,14 +9,14 @@ use Rattle.vector_file.proofs.Rooms.{within_fits, within_over}
 use Rattle.vector_file.proofs.Splits.{entry_bytes, blank, file_bytes_lem, file_size, file_room}
 use Rattle.vector_file.proofs.file.write_file.Goals as goal
 
-pub returns-in-default : goal.returns-in-default
-returns-in-default c = record {
-  written = (within_over (file_bytes c.args.inputs c.args.outputs c.args.deck.now) (length c.args.out.now) c.in-default.ensures, refl);
+pub returns-in_default : goal.returns-in_default
+returns-in_default c = record {
+  written = (within_over (file_bytes c.args.inputs c.args.outputs c.args.deck.now) (length c.args.out.now) c.in_default.ensures, refl);
   equal_files_equal_decks = equal_files_equal_decks c.args.inputs c.args.outputs c.args.deck.now;
 }
 
-pub write-numbers-at-requires : goal.write-numbers-at-requires
-write-numbers-at-requires c =
+pub write_numbers-at-requires : goal.write_numbers-at-requires
+write_numbers-at-requires c =
     let h = ap (λ ns. length (numbers_bytes ns)) c.header.ensures in
     let s = file_size c.args.inputs c.args.outputs c.args.deck.now in
     let w = within_fits (file_bytes c.args.inputs c.args.outputs c.args.deck.now) (length c.args.out.now) c.in-Some.length c.in-Some.ensures in
@@ -25,45 +25,45 @@ write-numbers-at-requires c =
 pub loop-entry-init : goal.loop-entry-init
 loop-entry-init c =
     let w = within_fits (file_bytes c.args.inputs c.args.outputs c.args.deck.now) (length c.args.out.now) c.in-Some.length c.in-Some.ensures in
-    let o = c.write-numbers-at.new.out in
-    let p = placed_same c.args.out.now o c.write-numbers-at.result (ap numbers_bytes c.header.ensures ∙ sym (append-nil _)) c.write-numbers-at.ensures in
-    (placed_after _ c.args.out.now o c.write-numbers-at.result p, omega (arith, w.0, w.1, c.write-numbers-at.auto.out))
+    let o = c.write_numbers-at.new.out in
+    let p = placed_same c.args.out.now o c.write_numbers-at.result (ap numbers_bytes c.header.ensures ∙ sym (append-nil _)) c.write_numbers-at.ensures in
+    (placed_after _ c.args.out.now o c.write_numbers-at.result p, omega (arith, w.0, w.1, c.write_numbers-at.auto.out))
 
-pub slice-bounds-write-numbers-count : goal.slice-bounds-write-numbers-count
-slice-bounds-write-numbers-count c =
-    let r = file_room c.args.inputs c.args.outputs c.args.deck.now c.loop-entry.entry-index c.loop-entry.at (length c.write-numbers-at.new.out) c.loop-entry-test.true c.loop-entry.invariant.0.0 c.loop-entry.invariant.1 in
-    omega (arith, c.loop-entry.auto.out, c.write-numbers-at.auto.out)
+pub slice_bounds-write_numbers-count : goal.slice_bounds-write_numbers-count
+slice_bounds-write_numbers-count c =
+    let r = file_room c.args.inputs c.args.outputs c.args.deck.now c.loop-entry.entry-index c.loop-entry.at (length c.write_numbers-at.new.out) c.loop-entry-test.true c.loop-entry.invariant.0.0 c.loop-entry.invariant.1 in
+    omega (arith, c.loop-entry.auto.out, c.write_numbers-at.auto.out)
 
-pub slice-bounds-write-numbers-start : goal.slice-bounds-write-numbers-start
-slice-bounds-write-numbers-start c =
-    let r = file_room c.args.inputs c.args.outputs c.args.deck.now c.loop-entry.entry-index c.loop-entry.at (length c.write-numbers-at.new.out) c.loop-entry-test.true c.loop-entry.invariant.0.0 c.loop-entry.invariant.1 in
-    omega (arith, c.loop-entry.auto.out, c.write-numbers-at.auto.out)
+pub slice_bounds-write_numbers-start : goal.slice_bounds-write_numbers-start
+slice_bounds-write_numbers-start c =
+    let r = file_room c.args.inputs c.args.outputs c.args.deck.now c.loop-entry.entry-index c.loop-entry.at (length c.write_numbers-at.new.out) c.loop-entry-test.true c.loop-entry.invariant.0.0 c.loop-entry.invariant.1 in
+    omega (arith, c.loop-entry.auto.out, c.write_numbers-at.auto.out)
 
-pub write-numbers-at-requires-in-loop-entry : goal.write-numbers-at-requires-in-loop-entry
-write-numbers-at-requires-in-loop-entry c =
-    let h = ap (λ ns. length (numbers_bytes ns)) c.entry-numbers.ensures in
-    let r = file_room c.args.inputs c.args.outputs c.args.deck.now c.loop-entry.entry-index c.loop-entry.at (length c.write-numbers-at.new.out) c.loop-entry-test.true c.loop-entry.invariant.0.0 c.loop-entry.invariant.1 in
-    simp (take_rest, length-drop) (omega (arith, c.loop-entry.auto.out, c.write-numbers-at.auto.out))
+pub write_numbers-at-requires-in-loop-entry : goal.write_numbers-at-requires-in-loop-entry
+write_numbers-at-requires-in-loop-entry c =
+    let h = ap (λ ns. length (numbers_bytes ns)) c.entry_numbers.ensures in
+    let r = file_room c.args.inputs c.args.outputs c.args.deck.now c.loop-entry.entry-index c.loop-entry.at (length c.write_numbers-at.new.out) c.loop-entry-test.true c.loop-entry.invariant.0.0 c.loop-entry.invariant.1 in
+    simp (take_rest, length-drop) (omega (arith, c.loop-entry.auto.out, c.write_numbers-at.auto.out))
 
-pub overflow-add-at : goal.overflow-add-at
-overflow-add-at c =
-    let h = ap (λ ns. length (numbers_bytes ns)) c.entry-numbers.ensures in
-    let r = file_room c.args.inputs c.args.outputs c.args.deck.now c.loop-entry.entry-index c.loop-entry.at (length c.write-numbers-at.new.out) c.loop-entry-test.true c.loop-entry.invariant.0.0 c.loop-entry.invariant.1 in
-    omega (arith, c.write-numbers-at-in-loop-entry.ensures.0, c.write-numbers-at.auto.out)
+pub overflow_add-at : goal.overflow_add-at
+overflow_add-at c =
+    let h = ap (λ ns. length (numbers_bytes ns)) c.entry_numbers.ensures in
+    let r = file_room c.args.inputs c.args.outputs c.args.deck.now c.loop-entry.entry-index c.loop-entry.at (length c.write_numbers-at.new.out) c.loop-entry-test.true c.loop-entry.invariant.0.0 c.loop-entry.invariant.1 in
+    omega (arith, c.write_numbers-at-in-loop-entry.ensures.0, c.write_numbers-at.auto.out)
 
 pub loop-entry-preserved : goal.loop-entry-preserved
 loop-entry-preserved c =
-    let h = ap numbers_bytes c.entry-numbers.ensures in
-    let r = file_room c.args.inputs c.args.outputs c.args.deck.now c.loop-entry.entry-index c.loop-entry.at (length c.write-numbers-at.new.out) c.loop-entry-test.true c.loop-entry.invariant.0.0 c.loop-entry.invariant.1 in
-    let l : c.loop-entry.at ≤ length c.loop-entry.out = omega (arith, c.loop-entry.auto.out, c.write-numbers-at.auto.out) in
-    let p = placed_same (take (length c.loop-entry.out - c.loop-entry.at) (drop c.loop-entry.at c.loop-entry.out)) c.write-numbers-at-in-loop-entry.new.out c.write-numbers-at-in-loop-entry.result h c.write-numbers-at-in-loop-entry.ensures in
-    (placed_more entry_bytes blank (numbers_bytes (header_numbers c.args.inputs c.args.outputs (length c.args.deck.now))) c.args.deck.now c.loop-entry.entry-index c.write-numbers-at.new.out c.loop-entry.out c.write-numbers-at-in-loop-entry.new.out c.loop-entry.at c.write-numbers-at-in-loop-entry.result c.loop-entry-test.true l c.loop-entry.invariant.0 p, c.loop-entry.invariant.1)
+    let h = ap numbers_bytes c.entry_numbers.ensures in
+    let r = file_room c.args.inputs c.args.outputs c.args.deck.now c.loop-entry.entry-index c.loop-entry.at (length c.write_numbers-at.new.out) c.loop-entry-test.true c.loop-entry.invariant.0.0 c.loop-entry.invariant.1 in
+    let l : c.loop-entry.at ≤ length c.loop-entry.out = omega (arith, c.loop-entry.auto.out, c.write_numbers-at.auto.out) in
+    let p = placed_same (take (length c.loop-entry.out - c.loop-entry.at) (drop c.loop-entry.at c.loop-entry.out)) c.write_numbers-at-in-loop-entry.new.out c.write_numbers-at-in-loop-entry.result h c.write_numbers-at-in-loop-entry.ensures in
+    (placed_more entry_bytes blank (numbers_bytes (header_numbers c.args.inputs c.args.outputs (length c.args.deck.now))) c.args.deck.now c.loop-entry.entry-index c.write_numbers-at.new.out c.loop-entry.out c.write_numbers-at-in-loop-entry.new.out c.loop-entry.at c.write_numbers-at-in-loop-entry.result c.loop-entry-test.true l c.loop-entry.invariant.0 p, c.loop-entry.invariant.1)
 
 pub returns : goal.returns
 returns c =
-    let p = placed_all entry_bytes (numbers_bytes (header_numbers c.args.inputs c.args.outputs (length c.args.deck.now))) c.args.deck.now c.loop-entry.entry-index c.write-numbers-at.new.out c.loop-entry.out c.loop-entry.at c.loop-entry-test.false c.loop-entry.invariant.0 in
-    let h = placed_same c.args.out.now c.write-numbers-at.new.out c.write-numbers-at.result (ap numbers_bytes c.header.ensures) c.write-numbers-at.ensures in
-    let b = placed_behind _ (flat_map entry_bytes c.args.deck.now) c.args.out.now c.write-numbers-at.new.out c.loop-entry.out c.write-numbers-at.result c.loop-entry.at h p in
+    let p = placed_all entry_bytes (numbers_bytes (header_numbers c.args.inputs c.args.outputs (length c.args.deck.now))) c.args.deck.now c.loop-entry.entry-index c.write_numbers-at.new.out c.loop-entry.out c.loop-entry.at c.loop-entry-test.false c.loop-entry.invariant.0 in
+    let h = placed_same c.args.out.now c.write_numbers-at.new.out c.write_numbers-at.result (ap numbers_bytes c.header.ensures) c.write_numbers-at.ensures in
+    let b = placed_behind _ (flat_map entry_bytes c.args.deck.now) c.args.out.now c.write_numbers-at.new.out c.loop-entry.out c.write_numbers-at.result c.loop-entry.at h p in
     let q = placed_same c.args.out.now c.loop-entry.out c.loop-entry.at (sym (file_bytes_lem c.args.inputs c.args.outputs c.args.deck.now)) b in
     let w = within_fits (file_bytes c.args.inputs c.args.outputs c.args.deck.now) (length c.args.out.now) c.in-Some.length c.in-Some.ensures in
     record {

@@ -2,8 +2,8 @@ use Rattle.std.proofs.Common.{rules}
 use Rattle.vector_file.proofs.Groups.{length-word, length-small, length_more}
 use Rattle.vector_file.proofs.number.+number_length.Goals as goal
 
-pub overflow-add-result : goal.overflow-add-result
-overflow-add-result t c = search (rules, length-word)
+pub overflow_add-result : goal.overflow_add-result
+overflow_add-result t c = search (rules, length-word)
 
 pub returns-then-n-lt128 : goal.returns-then-n-lt128
 returns-then-n-lt128 t c = search (rules, length-small)

@@ -12,19 +12,19 @@ returns-then-n-lt128 t c = last_group c.args.n c.args.out.now c.if-n-lt128.true 
 pub bounds-out-0-2 : goal.bounds-out-0-2
 bounds-out-0-2 t c = search (rules, length_more)
 
-pub slice-bounds-write-number-count : goal.slice-bounds-write-number-count
-slice-bounds-write-number-count t c = search (rules, length_more)
+pub slice_bounds-write_number-count : goal.slice_bounds-write_number-count
+slice_bounds-write_number-count t c = search (rules, length_more)
 
-pub slice-bounds-write-number-start : goal.slice-bounds-write-number-start
-slice-bounds-write-number-start t c = search (rules, length_more)
+pub slice_bounds-write_number-start : goal.slice_bounds-write_number-start
+slice_bounds-write_number-start t c = search (rules, length_more)
 
-pub write-number-requires : goal.write-number-requires
-write-number-requires t c =
+pub write_number-requires : goal.write_number-requires
+write_number-requires t c =
     let l = length_more c.args.n c.if-n-lt128.false in (search rules, simp (take_rest, length-drop) (simp length-set (omega arith)))
 
-pub overflow-add-result : goal.overflow-add-result
-overflow-add-result t c = search (rules, length_more)
+pub overflow_add-result : goal.overflow_add-result
+overflow_add-result t c = search (rules, length_more)
 
 pub returns : goal.returns
 returns t c =
-    first_group c.args.n c.write-number.result c.args.out.now c.write-number.new.out c.if-n-lt128.false (search (rules, length_more)) c.write-number.ensures
+    first_group c.args.n c.write_number.result c.args.out.now c.write_number.new.out c.if-n-lt128.false (search (rules, length_more)) c.write_number.ensures
