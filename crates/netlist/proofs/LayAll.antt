@@ -1,5 +1,5 @@
 -- All declarations in the tables of the loader, one by one.
-use Rattle.std.proofs.Common.{◌≡◌, ℕ, zero, suc, ◌+◌, ◌-◌, ◌<◌, ◌≤◌, true, false, leb, List, [], ◌∷◌, ◌++◌, map, length, get_or, take, drop, vec_items, vec_len, sym, refl, ap, ◌∙◌, subst, ⊎_elim, arith}
+use Rattle.std.proofs.Common.{◌≡◌, ℕ, zero, suc, ◌+◌, ◌-◌, ◌<◌, ◌≤◌, true, false, List, [], ◌∷◌, ◌++◌, map, length, get_or, take, drop, vec_items, sym, refl, ap, ◌∙◌, subst, ⊎_elim, arith}
 use Rattle.std.proofs.lemmas.List.{map-append, length-append, length-map, take_more, take-append-drop, get_or-map, get_or_default, get_or_append_left, get_or-append_right}
 use Rattle.std.proofs.lemmas.Bool.{cases_lt}
 use Rattle.bench.specs.declared.statement.Declaration as code
@@ -9,11 +9,10 @@ use Rattle.elaborate.specs.Elaborate.{place_of}
 use Rattle.std.proofs.lemmas.Bool.Decides.{nat_tests}
 use Rattle.model.specs.declared.kind.Kind.{Kind}
 use Rattle.model.specs.declared.kind.Kind.TheVariants.{And, Nand, Or, Nor, Xor, Xnor, Not, Buff}
-use Rattle.model.specs.Kinds.{word, takes}
+use Rattle.model.specs.Kinds.{takes}
 use Rattle.grammar.specs.Grammar.{Statement, input, output, gate}
-use Rattle.grammar.specs.Proper.{ProperStatement, AllProper, Proper}
+use Rattle.grammar.specs.Proper.{ProperStatement, AllProper}
 use Rattle.grammar.specs.Rules.{Declaration, gathered, nets, inputs, pins, outputs, net_of, input_of, output_of, pins_of, is_too_many}
-use Rattle.elaborate.specs.Tabled.{Tabled}
 use Rattle.elaborate.proofs.Gathered.{gathered_append, gathered_push}
 use Rattle.elaborate.specs.Whole.{net_lines}
 use Rattle.elaborate.proofs.Growth.{length-cells}

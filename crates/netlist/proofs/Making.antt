@@ -1,5 +1,5 @@
 -- From what the declarations of a text come to, to what the text comes to.
-use Rattle.std.proofs.Common.{◌≡◌, ℕ, List, [], Ok, Err, Result, subst}
+use Rattle.std.proofs.Common.{ℕ, List, [], Ok, Err, Result}
 use Rattle.grammar.specs.Rules.{Declaration}
 use Rattle.grammar.specs.Reading.{Reads, accepted}
 use Rattle.elaborate.proofs.Accepted.{well_declared}

@@ -1,10 +1,9 @@
 -- The loader's tables, as the search for an order takes them.
-use Rattle.std.proofs.Common.{◌≡◌, ℕ, ◌<◌, ◌≤◌, List, [], ◌∷◌, length, get_or, vec_items, sym, refl, ap, ◌∙◌, subst, arith}
+use Rattle.std.proofs.Common.{◌≡◌, ℕ, ◌<◌, List, [], ◌∷◌, length, get_or, vec_items, sym, refl, ap, ◌∙◌, subst, arith}
 use Rattle.std.proofs.lemmas.List.{length-map}
 use Rattle.std.proofs.ByRecursion.{All-get_or}
 use Rattle.grammar.specs.Rules.{Declaration, nets, inputs, outputs}
-use Rattle.circuit.specs.Circuit.{Cell}
-use Rattle.circuit.specs.Circles.{Sorted, CircleFree, FirstDependent}
+use Rattle.circuit.specs.Circles.{CircleFree, FirstDependent}
 use Rattle.circuit.specs.Tables.{cell_of, Formed, AllFormed}
 use Rattle.circuit.specs.Tables as tables
 use Rattle.circuit.specs.declared.net.Net.{Net}

@@ -1,13 +1,12 @@
 -- From what the loader finds to the refusals of the whole declarations.
-use Rattle.std.proofs.Common.{◌≡◌, ℕ, ◌⊎◌, List, [], map, length, sym, refl, ap, ◌∙◌, subst, inl, inr, arith}
+use Rattle.std.proofs.Common.{◌≡◌, ℕ, List, [], map, length, sym, ap, ◌∙◌, subst}
 use Rattle.std.proofs.lemmas.List.{nil_from_length, length-map}
 use Rattle.grammar.specs.Proper.{Proper}
 use Rattle.grammar.specs.Rules.{Declaration, nets, inputs, outputs, pins, pins_of, output_of}
 use Rattle.grammar.proofs.Properly.{nothing_proper, reads_proper}
-use Rattle.elaborate.specs.Elaborate.{place_of}
 use Rattle.elaborate.specs.Whole.{RefusedWhole}
 use Rattle.elaborate.proofs.Reading.{Rising, text_lines}
-use Rattle.elaborate.proofs.Refused.{refused_operand, refused_output, refused_none}
+use Rattle.elaborate.proofs.Refused.{refused_operand, refused_output}
 use Rattle.netlist.specs.Resolved.{Covered}
 use Rattle.netlist.specs.Laid.{FirstUndefined}
 use Rattle.netlist.specs.Building.{OfText}

@@ -1,10 +1,8 @@
-use Rattle.std.proofs.Common.{◌≡◌, ℕ, List, length, get_or, vec_items, sym, ap, ◌∙◌, subst, arith}
-use Rattle.std.proofs.lemmas.List.{length-map}
+use Rattle.std.proofs.Common.{ℕ, List, length, get_or, vec_items, ap, ◌∙◌, subst, arith}
 use Rattle.grammar.specs.Rules.{nets}
 use Rattle.bench.specs.SoFar.{declared}
 use Rattle.circuit.specs.Circuit.{Cell}
 use Rattle.circuit.specs.Circles.{Sorted, CircleFree, FirstDependent}
-use Rattle.elaborate.specs.Elaborate.{cells_of}
 use Rattle.elaborate.specs.Whole.{net_lines}
 use Rattle.elaborate.proofs.Accepted.{sorted_ordered}
 use Rattle.elaborate.proofs.Growth.{length-cells}
@@ -20,12 +18,12 @@ arrange-met-requires c =
     let size = tables_size (declared d) t laid in
     let slice = ap length c.as_slice.ensures.value in
     let few = (within_limits_lem (declared d) d.within).0 in
-    let made = c.in-ok-order.ensures in
+    let made = c.in_ok-order.ensures in
     record {
       formed = tables_formed (declared d) t c.as_slice.result.now c.as_slice-2.result.now c.as_slice.ensures.value c.as_slice-2.ensures.value laid;
       few = omega (arith, size, slice, few);
       room = omega (arith, size, slice, few, c.requires.room);
-      marks = omega (arith, ap length c.as_mut_slice.ensures.value, c.in-ok-marks.marks.ok.0, c.in-ok-marks.ensures.len, c.len-count.ensures, slice, t.nets.ok.0);
+      marks = omega (arith, ap length c.as_mut_slice.ensures.value, c.in_ok-marks.marks.ok.0, c.in_ok-marks.ensures.len, c.len-count.ensures, slice, t.nets.ok.0);
       capacity = omega (arith, made.capacity, c.len-count.ensures, slice, t.nets.ok.0);
       empty = made.items;
     }

@@ -9,4 +9,4 @@ pub returns : goal.returns
 returns c =
     let ds = declared c.read.new.self in
     let P : List Declaration → Type 0 = λ before. Reads c.args.text.now before accepted ds in
-    made c.args.text.now ds (length c.args.cells.now) (length c.args.links.now) c.build.result (c.if-cells-lt2048.false, c.if-links-lt20480.false) (subst P c.in-ok-declarations.ensures c.in-ok-read.ensures.reads) c.build.ensures
+    made c.args.text.now ds (length c.args.cells.now) (length c.args.links.now) c.build.result (c.if-cells-lt2048.false, c.if-links-lt20480.false) (subst P c.in_ok-declarations.ensures c.in_ok-read.ensures.reads) c.build.ensures

@@ -1,6 +1,6 @@
 use Rattle.std.proofs.Common.{◌≡◌, ℕ, List, [], ◌++◌, map, length, get_or, take, vec_items, sym, ap, ◌∙◌, arith}
 use Rattle.std.proofs.lemmas.List.{length-map, take_all}
-use Rattle.grammar.specs.Rules.{Declaration, nets, net_of}
+use Rattle.grammar.specs.Rules.{nets, net_of}
 use Rattle.bench.specs.declared.statement.Declaration as code
 use Rattle.bench.specs.declared.statement.Statement.TheVariants.{Input}
 use Rattle.bench.specs.SoFar.{items, declared}

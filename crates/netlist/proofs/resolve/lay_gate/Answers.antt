@@ -2,7 +2,6 @@ use Rattle.std.proofs.Common.{◌≡◌, ℕ, ◌+◌, ◌-◌, List, [], ◌∷
 use Rattle.std.proofs.lemmas.List.{length-append, length-map}
 use Rattle.grammar.specs.Rules.{nets}
 use Rattle.bench.specs.SoFar.{declared}
-use Rattle.circuit.specs.declared.net.Net.{Net}
 use Rattle.circuit.specs.declared.net.Net.TheVariants.{Gate}
 use Rattle.elaborate.specs.Elaborate.{place_of}
 use Rattle.text.specs.Tokens.{names_left}
@@ -12,14 +11,14 @@ use Rattle.netlist.proofs.resolve.lay_gate.Goals as goal
 grown : (ps qs : List ℕ) (os : List (List ℕ)) (f : List ℕ → ℕ) → qs ≡ ps ++ map f os → length qs ≡ length ps + length os
 grown ps qs os f e = ap length e ∙ length-append ps (map f os) ∙ ap (λ (n : ℕ). length ps + n) (length-map os f)
 
-pub overflow-sub-count : goal.overflow-sub-count
-overflow-sub-count c =
+pub overflow_sub-count : goal.overflow_sub-count
+overflow_sub-count c =
     let t = c.args.tables.now in
     let g = grown _ _ (names_left c.args.operands) (place_of (nets (declared c.args.declarations.now))) c.if-not-resolve_operands.ensures.resolves.1 in
     omega (arith, g, c.len.ensures, c.len-first.ensures, t.pins.ok.0, c.resolve_operands.new.pins.ok.0)
 
-pub overflow-cast-count : goal.overflow-cast-count
-overflow-cast-count c =
+pub overflow_cast-count : goal.overflow_cast-count
+overflow_cast-count c =
     let t = c.args.tables.now in
     let g = grown _ _ (names_left c.args.operands) (place_of (nets (declared c.args.declarations.now))) c.if-not-resolve_operands.ensures.resolves.1 in
     omega (arith, g, c.len.ensures, c.len-first.ensures, t.pins.ok.0, c.resolve_operands.new.pins.ok.0, c.requires.pins)

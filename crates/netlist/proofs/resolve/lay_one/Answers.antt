@@ -1,4 +1,4 @@
-use Rattle.std.proofs.Common.{◌≡◌, ◌≤◌, length, sym, refl, ap, ◌∙◌, subst}
+use Rattle.std.proofs.Common.{◌≤◌, length, subst}
 use Rattle.grammar.specs.Rules.{nets, pins_of}
 use Rattle.bench.specs.declared.statement.Statement.{Statement}
 use Rattle.bench.specs.SoFar.{declared}

@@ -1,6 +1,5 @@
-use Rattle.std.proofs.Common.{◌≡◌, ℕ, ◌<◌, List, [], map, length, get_or, take, sym, refl, ap, ◌∙◌, subst, arith}
+use Rattle.std.proofs.Common.{◌≡◌, ◌<◌, List, [], map, length, get_or, take, sym, ap, subst, arith}
 use Rattle.std.proofs.lemmas.List.{length-map, take_all}
-use Rattle.names.specs.declared.name.Name.{Name}
 use Rattle.grammar.specs.Grammar.{Statement}
 use Rattle.grammar.specs.Rules.{Declaration, nets, pins, pins_of}
 use Rattle.bench.specs.declared.statement.Declaration as code

@@ -1,4 +1,4 @@
-use Rattle.std.proofs.Common.{◌≡◌, ℕ, List, [], ◌∷◌, vec_items, sym, refl, ap, ◌∙◌, arith}
+use Rattle.std.proofs.Common.{[], vec_items, sym, refl, ap, ◌∙◌, arith}
 use Rattle.std.proofs.lemmas.List.{append-nil}
 use Rattle.names.specs.Tables.{bytes_of}
 use Rattle.grammar.specs.Rules.{nets, output_of}
@@ -9,12 +9,12 @@ use Rattle.elaborate.specs.Elaborate.{place_of}
 use Rattle.netlist.proofs.Resolving.{found_place, found_among, missing, covered_more, uncovered_here, resolved_more}
 use Rattle.netlist.proofs.resolve.list_one.Goals as goal
 
-pub returns-in-default-find_net : goal.returns-in-default-find_net
-returns-in-default-find_net c =
+pub returns-in_default-find_net : goal.returns-in_default-find_net
+returns-in_default-find_net c =
     let ns = nets (declared c.args.declarations.now) in
     let n = bytes_of c.in-Output.name in
     let one = ap (λ (s : Statement). output_of (said s)) c.in-Output.is in
-    record { resolves = uncovered_here ns [] (output_of (said c.args.says)) n one (missing ns n c.in-default-find_net.ensures); capacity = refl }
+    record { resolves = uncovered_here ns [] (output_of (said c.args.says)) n one (missing ns n c.in_default-find_net.ensures); capacity = refl }
 
 pub returns : goal.returns
 returns c =

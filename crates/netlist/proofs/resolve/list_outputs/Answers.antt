@@ -1,12 +1,11 @@
-use Rattle.std.proofs.Common.{◌≡◌, ℕ, ◌<◌, List, [], map, length, get_or, take, vec_items, sym, refl, ap, ◌∙◌, subst, arith}
+use Rattle.std.proofs.Common.{◌≡◌, List, [], map, length, take, vec_items, sym, ap, ◌∙◌, subst, arith}
 use Rattle.std.proofs.lemmas.List.{length-map, take_all}
 use Rattle.elaborate.specs.Elaborate.{place_of}
 use Rattle.grammar.specs.Rules.{Declaration, nets, outputs, output_of}
 use Rattle.bench.specs.declared.statement.Declaration as code
 use Rattle.bench.specs.declared.statement.Statement.TheVariants.{Input}
 use Rattle.bench.specs.SoFar.{items, declared}
-use Rattle.bench.specs.Statements.{said, declaration}
-use Rattle.netlist.specs.Laid.{FirstUndefined}
+use Rattle.bench.specs.Statements.{declaration}
 use Rattle.netlist.specs.Resolved.{Covered}
 use Rattle.netlist.proofs.LayAll.{within_limits_lem, output_room, next_listed, first_undefined}
 use Rattle.netlist.proofs.resolve.list_outputs.Goals as goal

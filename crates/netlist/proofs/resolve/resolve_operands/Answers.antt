@@ -1,4 +1,4 @@
-use Rattle.std.proofs.Common.{◌≡◌, ℕ, List, length, vec_items, ap, ◌∙◌, arith}
+use Rattle.std.proofs.Common.{length, vec_items, ap, ◌∙◌, arith}
 use Rattle.names.specs.Tables.{bytes_of}
 use Rattle.grammar.specs.Rules.{nets}
 use Rattle.bench.specs.SoFar.{declared}
@@ -7,12 +7,12 @@ use Rattle.elaborate.specs.Elaborate.{place_of}
 use Rattle.netlist.proofs.Resolving.{found_place, found_among, missing, covered_more, uncovered_more, uncovered_here, resolved_more}
 use Rattle.netlist.proofs.resolve.resolve_operands.Goals as goal
 
-pub returns-in-default-find_net : goal.returns-in-default-find_net
-returns-in-default-find_net c =
+pub returns-in_default-find_net : goal.returns-in_default-find_net
+returns-in_default-find_net c =
     let ns = nets (declared c.args.declarations.now) in
     let given = c.in-Some.ensures in
     record {
-      resolves = c.loop-operand.invariant.4 (uncovered_here ns (names_left c.next_name.new.self) (names_left c.loop-operand.operands) (bytes_of c.in-Some.operand) given.0 (missing ns (bytes_of c.in-Some.operand) c.in-default-find_net.ensures));
+      resolves = c.loop-operand.invariant.4 (uncovered_here ns (names_left c.next_name.new.self) (names_left c.loop-operand.operands) (bytes_of c.in-Some.operand) given.0 (missing ns (bytes_of c.in-Some.operand) c.in_default-find_net.ensures));
       capacity = c.loop-operand.invariant.2;
     }
 

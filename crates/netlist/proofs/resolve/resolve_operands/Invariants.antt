@@ -1,4 +1,4 @@
-use Rattle.std.proofs.Common.{◌≡◌, ◌+◌, ◌-◌, ◌≤◌, ◌++◌, map, length, vec_items, vec_len, vec_capacity}
+use Rattle.std.proofs.Common.{◌≡◌, ◌+◌, ◌≤◌, ◌++◌, map, length, vec_items, vec_len, vec_capacity}
 use Rattle.grammar.specs.Rules.{nets}
 use Rattle.bench.specs.SoFar.{declared}
 use Rattle.text.specs.Tokens.{names_left}

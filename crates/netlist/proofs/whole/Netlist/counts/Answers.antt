@@ -1,7 +1,7 @@
-use Rattle.std.proofs.Common.{◌≡◌, ℕ, length, vec_items, sym, ap, ◌∙◌}
+use Rattle.std.proofs.Common.{◌≡◌, ℕ, vec_items, sym, ◌∙◌}
 use Rattle.std.proofs.lemmas.List.{length-map}
 use Rattle.model.specs.declared.counts.Counts.{Counts}
-use Rattle.circuit.specs.Tables.{cell_of, cells_of}
+use Rattle.circuit.specs.Tables.{cell_of}
 use Rattle.netlist.proofs.whole.Netlist.counts.Goals as goal
 
 counted : (i : ℕ) {a b c d e f : ℕ} → a ≡ b → c ≡ d → e ≡ f → ◌≡◌ {A = Counts} (record { nets = a; inputs = i; outputs = c; pins = e }) (record { nets = b; inputs = i; outputs = d; pins = f })
