@@ -1,15 +1,15 @@
 -- Which rules a line breaks, from the statement that it spells.
-use Rattle.std.proofs.Common.{◌≡◌, ℕ, ◌<◌, ◌≤◌, Bool, true, false, cond, ◌||◌, eqb, List, length, Some, None, Ok, Err, codes, sym, refl, ap, ◌∙◌, subst, arith}
+use Rattle.std.proofs.Common.{◌≡◌, ℕ, ◌<◌, Bool, true, false, cond, ◌||◌, eqb, List, length, Some, None, Ok, Err, codes, sym, refl, ap, ◌∙◌, subst, arith}
 use Rattle.std.proofs.lemmas.Bool.{both_ways}
 use Rattle.model.specs.declared.kind.Kind.{Kind}
 use Rattle.model.specs.declared.kind.Kind.TheVariants.{And, Nand, Or, Nor, Xor, Xnor, Not, Buff}
 use Rattle.std.specs.Str.{bytes_eq}
 use Rattle.model.specs.Kinds.{word, takes, several_operands}
 use Rattle.model.specs.Refusals.{refusal}
-use Rattle.grammar.specs.Grammar.{Statement, input, output, gate, Spells, SaysNothing}
+use Rattle.grammar.specs.Grammar.{Statement, input, output, gate, Spells}
 use Rattle.grammar.specs.Rules.{Declaration, NoStatement, LongName, UnknownKind, OperandCount, Redefines, Relists, BeyondLimit, Breaks, no_statement, long_name, unknown_kind, operand_count, defined_before, listed_before, beyond_limit}
-use Rattle.grammar.specs.Reading.{Refused, Accepted}
-use Rattle.grammar.proofs.Once.{same_statement, not_both}
+use Rattle.grammar.specs.Reading.{Refused}
+use Rattle.grammar.proofs.Once.{same_statement}
 use Rattle.names.specs.declared.name.Name.{Name}
 use Rattle.text.specs.declared.cursor.Cursor.{Cursor}
 use Rattle.text.specs.declared.fault.TextFault.{TextFault}
@@ -23,7 +23,7 @@ use Rattle.text.specs.Windows.{bytes}
 use Rattle.bench.specs.declared.fault.StatementFault.TheVariants.{Text}
 use Rattle.bench.specs.declared.fault.StatementFault.TheVariants as refuses
 use Rattle.bench.specs.declared.statement.Statement.TheVariants as statement
-use Rattle.bench.specs.Statements.{RefusedAlone, CleanAlone, Written, StatementReads}
+use Rattle.bench.specs.Statements.{CleanAlone, Written, StatementReads}
 
 -- the rules that a statement breaks
 pub data Meets (ds : List Declaration) (k : ℕ) (s : Statement) : ℕ → Type 0 where
@@ -135,19 +135,19 @@ output_read l r n h e =
 takes_word : List ℕ → ℕ → Bool
 takes_word w n = cond (bytes_eq w (codes "NOT") || bytes_eq w (codes "BUFF")) (eqb n 1) (several_operands n)
 
-takes_word_lem : (k : Kind) (n : ℕ) → takes_word (word k) n ≡ takes k n
+takes_by_word : (k : Kind) (n : ℕ) → takes_word (word k) n ≡ takes k n
 unfolding takes_word
-takes_word_lem And n = refl
-takes_word_lem Nand n = refl
-takes_word_lem Or n = refl
-takes_word_lem Nor n = refl
-takes_word_lem Xor n = refl
-takes_word_lem Xnor n = refl
-takes_word_lem Not n = refl
-takes_word_lem Buff n = refl
+takes_by_word And n = refl
+takes_by_word Nand n = refl
+takes_by_word Or n = refl
+takes_by_word Nor n = refl
+takes_by_word Xor n = refl
+takes_by_word Xnor n = refl
+takes_by_word Not n = refl
+takes_by_word Buff n = refl
 
 same_takes : (w : List ℕ) (j k : Kind) (n : ℕ) → w ≡ word j → w ≡ word k → takes j n ≡ takes k n
-same_takes w j k n e f = sym (takes_word_lem j n) ∙ ap (λ (v : List ℕ). takes_word v n) (sym e ∙ f) ∙ takes_word_lem k n
+same_takes w j k n e f = sym (takes_by_word j n) ∙ ap (λ (v : List ℕ). takes_word v n) (sym e ∙ f) ∙ takes_by_word k n
 
 pub gate_accepted : (l : Line) (r : Shape) (n k : Name) (c : Cursor) (kind : Kind) → TextReads l (Ok r) → r ≡ shape.Gate n k c → k.bytes.now ≡ word kind → takes kind (length (names_left c)) ≡ true → StatementReads l (Ok (Some (statement.Gate n kind c)))
 gate_accepted l r n k c kind h e w f =

@@ -1,5 +1,5 @@
 -- What one statement more does to the numbers of nets, pins, inputs and outputs.
-use Rattle.std.proofs.Common.{◌≡◌, ℕ, ◌+◌, ◌-◌, ◌<◌, ◌≤◌, Bool, true, false, ◌||◌, ltb, leb, List, [], ◌∷◌, ◌++◌, length, sym, refl, ap, ◌∙◌, arith}
+use Rattle.std.proofs.Common.{◌≡◌, ℕ, ◌+◌, ◌-◌, ◌≤◌, Bool, true, false, ◌||◌, ltb, leb, List, [], ◌∷◌, ◌++◌, length, sym, refl, ap, ◌∙◌, arith}
 use Rattle.std.proofs.lemmas.List.{append-nil, append_assoc, length-append}
 use Rattle.std.proofs.lemmas.Bool.Decides.{nat_tests}
 use Rattle.grammar.specs.Grammar.{Statement, input, output, gate}
@@ -67,7 +67,7 @@ unfolding beyond
 within_beyond n p i o h = (grind (arith, nat_tests), grind (arith, nat_tests), grind (arith, nat_tests), grind (arith, nat_tests))
 
 pub record Fit (ds : List Declaration) (s : Statement) : Type 0 where
-  pub nets_fit_lem : length (nets ds) + length (net_of s) ≤ 2048
+  pub nets_fit : length (nets ds) + length (net_of s) ≤ 2048
   pub pins_fit : length (pins ds) + length (pins_of s) ≤ 8192
   pub inputs_fit : length (inputs ds) + length (input_of s) ≤ 64
   pub outputs_fit : length (outputs ds) + length (output_of s) ≤ 64
@@ -76,7 +76,7 @@ pub record Fit (ds : List Declaration) (s : Statement) : Type 0 where
 pub fits : (ds : List Declaration) (k : ℕ) (s : Statement) → is_too_many (ds ++ record { line = k; says = s } ∷ []) ≡ false → Fit ds s
 fits ds k s h =
     let w = within_beyond _ _ _ _ (sym (beyond_more ds (record { line = k; says = s })) ∙ h) in
-    record { nets_fit_lem = w.0; pins_fit = w.1; inputs_fit = w.2; outputs_fit = w.3 }
+    record { nets_fit = w.0; pins_fit = w.1; inputs_fit = w.2; outputs_fit = w.3 }
 
 pub one_each : (s : Statement) → length (net_of s) + length (output_of s) ≡ 1
 one_each (input n) = refl

@@ -1,12 +1,12 @@
 -- From what a line does to the declarations to what a whole text does.
-use Rattle.std.proofs.Common.{◌≡◌, ℕ, suc, ◌+◌, ◌<◌, ◌≤◌, ◌⊎◌, List, [], ◌∷◌, ◌++◌, map, length, Some, None, Ok, Err, Result, sym, refl, ap, ◌∙◌, subst, inl, inr, ⊎_elim, add-one, arith}
+use Rattle.std.proofs.Common.{◌≡◌, ℕ, suc, ◌<◌, ◌≤◌, List, [], ◌∷◌, ◌++◌, map, Some, None, Ok, Err, Result, sym, refl, ap, ◌∙◌, subst, inr, ⊎_elim, add-one, arith}
 use Rattle.std.proofs.lemmas.Bool.{cases_lt}
 use Rattle.std.proofs.lemmas.List.{map_push}
 use Rattle.names.specs.Places.{Stands}
 use Rattle.grammar.specs.Lines.{lines}
 use Rattle.grammar.specs.Grammar.{Statement, Spells, SaysNothing}
 use Rattle.grammar.specs.Rules.{Declaration, Redefines, Relists, BeyondLimit, Breaks, defined_before, listed_before, beyond_limit}
-use Rattle.grammar.specs.Reading.{Refused, Accepted, Answer, accepted, refused, ReadsFrom, at_end, silent, declares, refuses}
+use Rattle.grammar.specs.Reading.{Accepted, Answer, accepted, refused, ReadsFrom, at_end, silent, declares, refuses}
 use Rattle.model.specs.Refusals.{refusal}
 use Rattle.text.specs.declared.reader.Line.{Line}
 use Rattle.text.specs.declared.reader.Reader.{Reader}
@@ -20,7 +20,7 @@ use Rattle.bench.specs.declared.statement.Statement.TheVariants as statement
 use Rattle.bench.specs.declared.statement.Declaration as code-d
 use Rattle.bench.specs.Statements.{said, declaration, StatementPlaced, StandsIn, AllStand, CleanAlone, StatementReads}
 use Rattle.bench.specs.SoFar.{items, declared, Grows, Declares, ReadsLine}
-use Rattle.bench.proofs.Broken.{Meets, long, unknown, miscounted, redefines, relists, beyond, meets, refused_by}
+use Rattle.bench.proofs.Broken.{Meets, long, unknown, miscounted, redefines, relists, beyond, meets}
 
 -- a line whose own rules hold, after some declarations
 module _ (l : Line) (ds : List Declaration) (s : Statement) (h : Spells (bytes l) s) (clean : CleanAlone l) where

@@ -31,9 +31,9 @@ module _ (ns : List (List ℕ)) (b : ℕ) where
           ⊎_elim (rec m) (λ g. let s : j ≡ k = omega arith in both_ways (eqb (bucket (get_or ns k [])) b) q (eq-eqb (bucket (get_or ns k [])) b (sym (ap (λ (i : ℕ). bucket (get_or ns i [])) s) ∙ e))) (cases_lt j k)
 
   -- the last one is
-  pub last_in_lem : (k : ℕ) → 0 < last_in ns b k → bucket (get_or ns (last_in ns b k - 1) []) ≡ b
-  last_in_lem zero h = absurd (omega (arith, h))
-  last_in_lem (suc k) h = at (eqb (bucket (get_or ns k [])) b) refl h (last_in_lem k)
+  pub last_is_inside : (k : ℕ) → 0 < last_in ns b k → bucket (get_or ns (last_in ns b k - 1) []) ≡ b
+  last_is_inside zero h = absurd (omega (arith, h))
+  last_is_inside (suc k) h = at (eqb (bucket (get_or ns k [])) b) refl h (last_is_inside k)
     where
       at : (t : Bool) → eqb (bucket (get_or ns k [])) b ≡ t → 0 < cond t (suc k) (last_in ns b k) → (0 < last_in ns b k → bucket (get_or ns (last_in ns b k - 1) []) ≡ b) → bucket (get_or ns (cond t (suc k) (last_in ns b k) - 1) []) ≡ b
       at true q m rec = let s : suc k - 1 ≡ k = omega arith in ap (λ (i : ℕ). bucket (get_or ns i [])) s ∙ eqb-true (bucket (get_or ns k [])) b q
@@ -57,7 +57,7 @@ pub walk_starts : (ns : List (List ℕ)) (n : List ℕ) (b at : ℕ) → b ≡ b
 walk_starts ns n b at s e =
     record {
       below = omega (arith, last_le ns b (length ns));
-      inside = λ h. ap (λ (k : ℕ). bucket (get_or ns (k - 1) [])) e ∙ last_in_lem ns b (length ns) (omega arith) ∙ s;
+      inside = λ h. ap (λ (k : ℕ). bucket (get_or ns (k - 1) [])) e ∙ last_is_inside ns b (length ns) (omega arith) ∙ s;
       others = λ j l h f. last_none ns b (length ns) j (omega arith) h (ap bucket f ∙ sym s);
     }
 
@@ -68,7 +68,7 @@ walk_on ns n i at next some e w other link =
     let same : b ≡ bucket n = ap (λ (k : ℕ). bucket (get_or ns k [])) e ∙ w.inside some in
     record {
       below = omega (arith, last_le ns b i, w.below);
-      inside = λ h. ap (λ (k : ℕ). bucket (get_or ns (k - 1) [])) link ∙ last_in_lem ns b i (omega arith) ∙ same;
+      inside = λ h. ap (λ (k : ℕ). bucket (get_or ns (k - 1) [])) link ∙ last_is_inside ns b i (omega arith) ∙ same;
       others = λ j l h f. ⊎_elim (λ g. last_none ns b i j (omega arith) g (ap bucket f ∙ sym same)) (λ g. ⊎_elim (λ k. w.others j (omega arith) h f) (λ k. let s : j ≡ i = omega arith in other (ap (λ (x : ℕ). get_or ns x []) (sym s) ∙ f)) (cases_lt i j)) (cases_lt j i);
     }
 

@@ -10,11 +10,11 @@ use Rattle.bench.specs.SoFar.{items, declared}
 use Rattle.bench.proofs.Steps.{goes_on, still_stand, stops_refused, stops_at_end}
 use Rattle.bench.proofs.declarations.Declarations.read.Goals as goal
 
-pub returns-in-err-check-length : goal.returns-in-err-check-length
-returns-in-err-check-length c =
-    let p = err_from_is_err_and c.from-residual.result c.from-residual.ensures.1 in
+pub returns-in_err-check_length : goal.returns-in_err-check_length
+returns-in_err-check_length c =
+    let p = err_from_is_err_and c.from_residual.result c.from_residual.ensures.1 in
     record {
-      reads = rw (p.1, p.2, c.in-err-check-length.ensures.0) (too_long c.in-err-check-length.ensures.1);
+      reads = rw (p.1, p.2, c.in_err-check_length.ensures.0) (too_long c.in_err-check_length.ensures.1);
       places = λ h. h;
       one_statement = one_statement;
       one_reading = one_reading;
@@ -25,18 +25,18 @@ loop-line-preserved c =
     let given = c.in-Some.ensures in
     let same = c.loop-line.invariant.2 in
     let Placed : List ℕ → Type 0 = λ text. PlacedIn text c.in-Some.line in (
-      λ a es h. c.loop-line.invariant.0 a es (goes_on c.loop-line.reader c.next-line.new.self c.in-Some.line c.loop-line.self c.read-line.new.self tt a es given c.in-ok-read-line.ensures h),
-      λ h. still_stand c.args.text.now c.loop-line.self c.read-line.new.self c.in-Some.line tt (subst Placed same given.5) c.in-ok-read-line.ensures (c.loop-line.invariant.1 h),
+      λ a es h. c.loop-line.invariant.0 a es (goes_on c.loop-line.reader c.next_line.new.self c.in-Some.line c.loop-line.self c.read_line.new.self tt a es given c.in_ok-read_line.ensures h),
+      λ h. still_stand c.args.text.now c.loop-line.self c.read_line.new.self c.in-Some.line tt (subst Placed same given.5) c.in_ok-read_line.ensures (c.loop-line.invariant.1 h),
       ap (λ (t : Bor (List ℕ)). t.now) given.3 ∙ same,
     )
 
-pub returns-in-err-read-line : goal.returns-in-err-read-line
-returns-in-err-read-line c =
-    let p = err_from_is_err_and c.from-residual-in-err-read-line.result c.from-residual-in-err-read-line.ensures.1 in
-    let f = c.in-err-read-line.field-0.0 in
+pub returns-in_err-read_line : goal.returns-in_err-read_line
+returns-in_err-read_line c =
+    let p = err_from_is_err_and c.from_residual-in_err-read_line.result c.from_residual-in_err-read_line.ensures.1 in
+    let f = c.in_err-read_line.field-0.0 in
     record {
-      reads = rw (p.1, p.2) (in_lines (refused (statement_refusal f)) (declared c.read-line.new.self) c.in-ok-check-length.ensures (c.loop-line.invariant.0 (refused (statement_refusal f)) (declared c.read-line.new.self) (stops_refused c.loop-line.reader c.next-line.new.self c.in-Some.line c.loop-line.self c.read-line.new.self f c.in-Some.ensures c.in-err-read-line.ensures)));
-      places = λ h. let P : Declarations → Type 0 = λ d. AllStand c.args.text.now (items d) in subst P (sym c.in-err-read-line.ensures.3) (c.loop-line.invariant.1 h);
+      reads = rw (p.1, p.2) (in_lines (refused (statement_refusal f)) (declared c.read_line.new.self) c.in_ok-check_length.ensures (c.loop-line.invariant.0 (refused (statement_refusal f)) (declared c.read_line.new.self) (stops_refused c.loop-line.reader c.next_line.new.self c.in-Some.line c.loop-line.self c.read_line.new.self f c.in-Some.ensures c.in_err-read_line.ensures)));
+      places = λ h. let P : Declarations → Type 0 = λ d. AllStand c.args.text.now (items d) in subst P (sym c.in_err-read_line.ensures.3) (c.loop-line.invariant.1 h);
       one_statement = one_statement;
       one_reading = one_reading;
     }
@@ -44,7 +44,7 @@ returns-in-err-read-line c =
 pub returns : goal.returns
 returns c =
     record {
-      reads = in_lines accepted (declared c.loop-line.self) c.in-ok-check-length.ensures (c.loop-line.invariant.0 accepted (declared c.loop-line.self) (stops_at_end c.loop-line.reader c.next-line.new.self c.loop-line.self c.in-default.ensures));
+      reads = in_lines accepted (declared c.loop-line.self) c.in_ok-check_length.ensures (c.loop-line.invariant.0 accepted (declared c.loop-line.self) (stops_at_end c.loop-line.reader c.next_line.new.self c.loop-line.self c.in_default.ensures));
       places = c.loop-line.invariant.1;
       one_statement = one_statement;
       one_reading = one_reading;

@@ -5,12 +5,12 @@ use Rattle.std.proofs.lemmas.Result.{err_from_is_err_and}
 use Rattle.bench.proofs.Steps.{statement_line, refused_line}
 use Rattle.bench.proofs.declarations.Declarations.read_line.Goals as goal
 
-pub returns-in-err-read-statement : goal.returns-in-err-read-statement
-returns-in-err-read-statement c =
-    let p = err_from_is_err_and c.from-residual.result c.from-residual.ensures.1 in
-    rw (p.1, p.2) (refused_line c.args.self.now c.args.line c.in-err-read-statement.field-0.0 c.in-err-read-statement.ensures)
+pub returns-in_err-read_statement : goal.returns-in_err-read_statement
+returns-in_err-read_statement c =
+    let p = err_from_is_err_and c.from_residual.result c.from_residual.ensures.1 in
+    rw (p.1, p.2) (refused_line c.args.self.now c.args.line c.in_err-read_statement.field-0.0 c.in_err-read_statement.ensures)
 
 pub returns-in-Some : goal.returns-in-Some
 returns-in-Some c =
     let P : Option Statement → Type 0 = λ o. StatementReads c.args.line (Ok o) in
-    statement_line c.args.self.now c.declare.new.self c.args.line c.in-Some.says c.declare.result (subst P c.in-Some.is c.in-ok-read-statement.ensures) c.declare.ensures
+    statement_line c.args.self.now c.declare.new.self c.args.line c.in-Some.says c.declare.result (subst P c.in-Some.is c.in_ok-read_statement.ensures) c.declare.ensures
