@@ -1,6 +1,4 @@
-use Rattle.std.proofs.Common.{vec_items, vec_capacity, sym, refl, ap, ◌∙◌, arith, below_more}
-use Rattle.std.proofs.lemmas.List.{get_or-set_same, get_or-set_other}
-use Rattle.walk.specs.declared.mark.Mark.TheVariants.{New}
+use Rattle.std.proofs.Common.{vec_items, vec_capacity, sym, refl, ap, ◌∙◌, arith}
 use Rattle.walk.proofs.Tables.{cells_size}
 use Rattle.walk.proofs.Circle.{sorted_free}
 use Rattle.walk.proofs.Walking.{all_done}
@@ -8,26 +6,10 @@ use Rattle.walk.proofs.Whole.{fresh, done_or_new, first_found, next_done}
 use Rattle.order.proofs.arrange.Goals as goal
 use Rattle.order.proofs.arrange.Goals.{in-New+else-follow, in_default}
 
-pub loop-mark-preserved : goal.loop-mark-preserved
-loop-mark-preserved c =
-    below_more _ _
-    (λ k h. get_or-set_other c.loop-mark.marks c.loop-mark.mark-index k New New (omega arith) ∙ c.loop-mark.invariant k h)
-    (get_or-set_same c.loop-mark.marks c.loop-mark.mark-index New New (omega (arith, c.loop-mark.auto.marks)))
-
 pub loop-k-init : goal.loop-k-init
 loop-k-init c =
     let size = c.loop-mark.auto.marks ∙ c.requires.marks ∙ sym (cells_size c.args.nets.now c.args.pins.now) in
     (fresh _ _ c.loop-mark.marks c.requires.empty size (λ k lt. c.loop-mark.invariant k (omega (arith, c.loop-mark.auto.marks))), (λ j lt. absurd (omega arith)), refl)
-
-pub follow-requires : goal.follow-requires
-follow-requires c = record {
-  formed = c.requires.formed;
-  is_net = omega arith;
-  new = c.in-New.is;
-  room = omega (arith, c.requires.room, c.loop-k.auto.room);
-  capacity = omega (arith, c.requires.capacity, c.loop-k.invariant.2);
-  walk = c.loop-k.invariant.0;
-}
 
 pub returns-then-follow : goal.returns-then-follow
 returns-then-follow c = first_found _ _ c.loop-k.marks c.loop-k.k c.loop-k.invariant.0 (omega (arith, cells_size c.args.nets.now c.args.pins.now)) c.loop-k.invariant.1 c.if-follow.ensures.walk

@@ -1,13 +1,10 @@
-use Rattle.std.proofs.Common.{◌≡◌, ◌-◌, ◌<◌, length, refl, ap, ◌∙◌, arith}
+use Rattle.std.proofs.Common.{◌≡◌, ◌<◌, length, refl, ap, ◌∙◌, arith}
 use Rattle.std.proofs.lemmas.List.{length-set}
-use Rattle.walk.specs.declared.mark.Mark.TheVariants.{Open, Done}
+use Rattle.walk.specs.declared.mark.Mark.TheVariants.{Done}
 use Rattle.walk.proofs.Turns.{opens, opening, lighter, is_open, is_marked, order_lacks, path_lacks, ends, leaves, looks, passes, deepens, meets}
 use Rattle.walk.proofs.Tables.{cells_size}
 use Rattle.order.proofs.Path.{pushes, lies}
 use Rattle.order.proofs.follow.Goals as goal
-
-pub bounds-marks-net : goal.bounds-marks-net
-bounds-marks-net c = omega (arith, c.requires.is_net, c.requires.walk.size, cells_size c.args.nets.now c.args.pins.now)
 
 pub walk-init : goal.walk-init
 walk-init c =
@@ -31,9 +28,6 @@ returns-in-None c = record {
       (opening c.args.marks.now c.args.start c.count.result c.requires.new);
   capacity = c.push_reserved.ensures.capacity ∙ c.walk.invariant.2;
 }
-
-pub walk-smaller-in-Some : goal.walk-smaller-in-Some
-walk-smaller-in-Some c = lighter c.walk.marks c.walk.net Done (omega (arith, c.walk.invariant.3, c.walk.invariant.4)) c.left_at-left.ensures (omega arith)
 
 pub walk-preserved-in-Some : goal.walk-preserved-in-Some
 walk-preserved-in-Some c =
@@ -77,10 +71,6 @@ returns-in-Open c = record {
   walk = meets c.walk.invariant.0 c.left_at-left.ensures (λ none. omega arith) c.operand-read.ensures.value c.in-Open.is;
   capacity = c.walk.invariant.2;
 }
-
-pub walk-smaller : goal.walk-smaller
-walk-smaller c =
-    lighter c.walk.marks c.walk.net (Open (c.left_at-left.result - 1)) (omega (arith, c.walk.invariant.3, c.walk.invariant.4)) c.left_at-left.ensures (omega arith)
 
 pub walk-preserved : goal.walk-preserved
 walk-preserved c = (

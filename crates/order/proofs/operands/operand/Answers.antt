@@ -2,9 +2,6 @@ use Rattle.std.proofs.Common.{◌<◌, length, get_or, sym, ap, subst}
 use Rattle.walk.proofs.Tables.{read_net_lem}
 use Rattle.order.proofs.operands.operand.Goals as goal
 
-pub bounds-operands-place : goal.bounds-operands-place
-bounds-operands-place c = subst (λ z. c.args.place < length z) (sym c.operands.ensures.value) c.requires.place
-
 pub returns : goal.returns
 returns c =
     let same = ap (λ z. get_or z c.args.place 0) c.operands.ensures.value in

@@ -14,8 +14,5 @@ put_number-at-requires t c = search (rules, width_more)
 pub bounds-out-at : goal.bounds-out-at
 bounds-out-at t c = search (rules, width_more)
 
-pub overflow_add-result : goal.overflow_add-result
-overflow_add-result t c = search (rules, width_more)
-
 pub returns : goal.returns
 returns t c = next_digit c.args.n c.put_number-at.result c.args.out.now c.put_number-at.new.out c.if-n-lt10.false (search rules) c.requires c.put_number-at.ensures

@@ -3,9 +3,8 @@ use Rattle.std.specs.List.{flat_map}
 use Rattle.std.proofs.lemmas.List.{at_drop_all}
 use Rattle.vector_file.specs.Numbers.{numbers_bytes}
 use Rattle.vector_file.specs.Files.{file_bytes}
-use Rattle.vector_file.proofs.Joins.{length-next}
 use Rattle.vector_file.proofs.Rooms.{fits_left, over_left, fits_within, over_within}
-use Rattle.vector_file.proofs.Splits.{entry_bytes, blank, file_size}
+use Rattle.vector_file.proofs.Splits.{entry_bytes, file_size}
 use Rattle.vector_file.proofs.file.file_length.Goals as goal
 
 pub returns-in_err-left : goal.returns-in_err-left
@@ -21,20 +20,6 @@ loop-entry-init c =
     let s = file_size c.args.inputs c.args.outputs c.args.deck.now in
     let f = fits_left (numbers_bytes c.header.result) c.args.room c.in_ok-left.left c.in_ok-left.ensures in
     (omega arith, omega arith)
-
-pub returns-in_err-left-2 : goal.returns-in_err-left-2
-returns-in_err-left-2 c =
-    let h = ap (λ ns. length (numbers_bytes ns)) c.entry_numbers.ensures in
-    let n = length-next entry_bytes blank c.args.deck.now c.loop-entry.entry-index c.loop-entry-test.true in
-    let o = over_left (numbers_bytes c.entry_numbers.result) c.loop-entry.left c.in_err-left-2.ensures in
-    c.from_residual-in_err-left-2.ensures ∙ over_within (file_bytes c.args.inputs c.args.outputs c.args.deck.now) c.args.room (omega (arith, c.loop-entry.invariant.1))
-
-pub loop-entry-preserved : goal.loop-entry-preserved
-loop-entry-preserved c =
-    let h = ap (λ ns. length (numbers_bytes ns)) c.entry_numbers.ensures in
-    let n = length-next entry_bytes blank c.args.deck.now c.loop-entry.entry-index c.loop-entry-test.true in
-    let f = fits_left (numbers_bytes c.entry_numbers.result) c.loop-entry.left c.in_ok-left-2.left c.in_ok-left-2.ensures in
-    (omega (arith, c.loop-entry.invariant.0), omega (arith, c.loop-entry.invariant.1))
 
 pub returns : goal.returns
 returns c =

@@ -6,7 +6,7 @@ use Rattle.vector_file.specs.Files.{header_numbers, file_bytes}
 use Rattle.vector_file.proofs.Places.{placed_same, placed_more, placed_all, placed_after, placed_behind}
 use Rattle.vector_file.proofs.Readable.{equal_files_equal_decks}
 use Rattle.vector_file.proofs.Rooms.{within_fits, within_over}
-use Rattle.vector_file.proofs.Splits.{entry_bytes, blank, file_bytes_lem, file_size, file_room}
+use Rattle.vector_file.proofs.Splits.{entry_bytes, blank, file_bytes_lem, file_room}
 use Rattle.vector_file.proofs.file.write_file.Goals as goal
 
 pub returns-in_default : goal.returns-in_default
@@ -15,13 +15,6 @@ returns-in_default c = record {
   equal_files_equal_decks = equal_files_equal_decks c.args.inputs c.args.outputs c.args.deck.now;
 }
 
-pub write_numbers-at-requires : goal.write_numbers-at-requires
-write_numbers-at-requires c =
-    let h = ap (λ ns. length (numbers_bytes ns)) c.header.ensures in
-    let s = file_size c.args.inputs c.args.outputs c.args.deck.now in
-    let w = within_fits (file_bytes c.args.inputs c.args.outputs c.args.deck.now) (length c.args.out.now) c.in-Some.length c.in-Some.ensures in
-    omega (arith, w.0, w.1)
-
 pub loop-entry-init : goal.loop-entry-init
 loop-entry-init c =
     let w = within_fits (file_bytes c.args.inputs c.args.outputs c.args.deck.now) (length c.args.out.now) c.in-Some.length c.in-Some.ensures in
@@ -29,27 +22,11 @@ loop-entry-init c =
     let p = placed_same c.args.out.now o c.write_numbers-at.result (ap numbers_bytes c.header.ensures ∙ sym (append-nil _)) c.write_numbers-at.ensures in
     (placed_after _ c.args.out.now o c.write_numbers-at.result p, omega (arith, w.0, w.1, c.write_numbers-at.auto.out))
 
-pub slice_bounds-write_numbers-count : goal.slice_bounds-write_numbers-count
-slice_bounds-write_numbers-count c =
-    let r = file_room c.args.inputs c.args.outputs c.args.deck.now c.loop-entry.entry-index c.loop-entry.at (length c.write_numbers-at.new.out) c.loop-entry-test.true c.loop-entry.invariant.0.0 c.loop-entry.invariant.1 in
-    omega (arith, c.loop-entry.auto.out, c.write_numbers-at.auto.out)
-
-pub slice_bounds-write_numbers-start : goal.slice_bounds-write_numbers-start
-slice_bounds-write_numbers-start c =
-    let r = file_room c.args.inputs c.args.outputs c.args.deck.now c.loop-entry.entry-index c.loop-entry.at (length c.write_numbers-at.new.out) c.loop-entry-test.true c.loop-entry.invariant.0.0 c.loop-entry.invariant.1 in
-    omega (arith, c.loop-entry.auto.out, c.write_numbers-at.auto.out)
-
 pub write_numbers-at-requires-in-loop-entry : goal.write_numbers-at-requires-in-loop-entry
 write_numbers-at-requires-in-loop-entry c =
     let h = ap (λ ns. length (numbers_bytes ns)) c.entry_numbers.ensures in
     let r = file_room c.args.inputs c.args.outputs c.args.deck.now c.loop-entry.entry-index c.loop-entry.at (length c.write_numbers-at.new.out) c.loop-entry-test.true c.loop-entry.invariant.0.0 c.loop-entry.invariant.1 in
     simp (take_rest, length-drop) (omega (arith, c.loop-entry.auto.out, c.write_numbers-at.auto.out))
-
-pub overflow_add-at : goal.overflow_add-at
-overflow_add-at c =
-    let h = ap (λ ns. length (numbers_bytes ns)) c.entry_numbers.ensures in
-    let r = file_room c.args.inputs c.args.outputs c.args.deck.now c.loop-entry.entry-index c.loop-entry.at (length c.write_numbers-at.new.out) c.loop-entry-test.true c.loop-entry.invariant.0.0 c.loop-entry.invariant.1 in
-    omega (arith, c.write_numbers-at-in-loop-entry.ensures.0, c.write_numbers-at.auto.out)
 
 pub loop-entry-preserved : goal.loop-entry-preserved
 loop-entry-preserved c =

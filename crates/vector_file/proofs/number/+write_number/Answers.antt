@@ -22,9 +22,6 @@ pub write_number-requires : goal.write_number-requires
 write_number-requires t c =
     let l = length_more c.args.n c.if-n-lt128.false in (search rules, simp (take_rest, length-drop) (simp length-set (omega arith)))
 
-pub overflow_add-result : goal.overflow_add-result
-overflow_add-result t c = search (rules, length_more)
-
 pub returns : goal.returns
 returns t c =
     first_group c.args.n c.write_number.result c.args.out.now c.write_number.new.out c.if-n-lt128.false (search (rules, length_more)) c.write_number.ensures

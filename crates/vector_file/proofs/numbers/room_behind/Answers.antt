@@ -10,10 +10,6 @@ returns-then-left-len c =
     let n = length-next number_bytes 0 c.args.numbers.now c.loop-n.n-index c.loop-n-test.true in
     left_none (numbers_bytes c.args.numbers.now) c.args.room (omega arith)
 
-pub loop-n-preserved : goal.loop-n-preserved
-loop-n-preserved c =
-    let n = length-next number_bytes 0 c.args.numbers.now c.loop-n.n-index c.loop-n-test.true in omega arith
-
 pub returns : goal.returns
 returns c =
     let n = at_drop_all (λ ns. length (numbers_bytes ns)) c.args.numbers.now c.loop-n.n-index c.loop-n-test.false in
