@@ -8,6 +8,7 @@ use report::short::ShortBuffer;
 use std::alloc::{AllocError, Global};
 use std::io;
 use std::io::{Read, Write};
+use std::process::ExitCode;
 
 // One byte more than a text may have tells that it has too many.
 const MOST: u64 = 65_537;
@@ -53,10 +54,10 @@ fn run(rt: &HostRuntime) -> anyhow::Result<bool> {
     }
 }
 
-fn main(rt: HostRuntime) -> anyhow::Result<()> {
+fn main(rt: HostRuntime) -> anyhow::Result<ExitCode> {
     if run(&rt)? {
-        return Ok(());
+        return Ok(ExitCode::SUCCESS);
     }
-    // the refusal is printed already: this only makes the status 1
-    Err(anyhow!("refused"))
+    // the refusal is printed already
+    Ok(ExitCode::FAILURE)
 }
