@@ -1,8 +1,11 @@
 -- The chains of the table of names.
-use Rattle.std.proofs.Common.{◌≡◌, ℕ, zero, suc, ◌+◌, ◌-◌, ◌<◌, ◌≤◌, Bool, true, false, cond, eqb, ◌≢◌, List, [], ◌∷◌, ◌++◌, length, get_or, drop, set, replicate, sym, refl, ap, ◌∙◌, ⊎_elim, add-one, arith}
-use Rattle.std.proofs.lemmas.List.{drop_all, get_or_append_left, get_or_push, get_or-set_same, get_or-set_other, get_or-replicate}
+use Rattle.std.proofs.Common.{◌≡◌, ℕ, zero, suc, ◌+◌, ◌-◌, ◌*◌, ◌%◌, ◌<◌, ◌≤◌, Bool, true, false, cond, eqb, ◌≢◌, List, [], ◌∷◌, ◌++◌, length, get_or, drop, set, replicate, sym, refl, ap, ◌∙◌, ⊎_elim, add-one, arith}
+use Rattle.std.proofs.lemmas.List.{drop_more, drop_all, get_or_append_left, get_or_push, get_or-set_same, get_or-set_other, get_or-replicate}
 use Rattle.std.proofs.lemmas.Bool.{cond-true, cond-false, eqb-true, eq-eqb, ne_eqb, both_ways, cases_lt}
 use Rattle.names.specs.Buckets.{bucket_from, bucket, last_in}
+
+pub bucket_more : (name : List ℕ) (h i : ℕ) → i < length name → bucket_from ((h * 31 + get_or name i 0) % 4096) (drop (i + 1) name) ≡ bucket_from h (drop i name)
+bucket_more name h i l = ap (bucket_from h) (sym (drop_more name i 0 l))
 
 pub bucket_all : (name : List ℕ) (h i : ℕ) → length name ≤ i → bucket_from h (drop i name) ≡ bucket_from 0 name → h ≡ bucket name
 unfolding bucket
