@@ -48,7 +48,7 @@ fn tell_lines(
 }
 
 // The texts at the limits of inputs, outputs, nets and pins.
-pub fn tell_limits(rt: &HostRuntime) -> io::Result<()> {
+pub(crate) fn tell_limits(rt: &HostRuntime) -> io::Result<()> {
     tell_lines(rt, b"INPUT(", 64, b"", 64, &behind::INPUTS)?;
     tell_lines(rt, b"OUTPUT(", 64, b"", 64, &behind::OUTPUTS)?;
     tell_lines(rt, b"INPUT(", 64, NOT, 2048, &behind::NETS)?;
@@ -72,7 +72,7 @@ fn tell_long(
 }
 
 // The texts at the limit of bytes, and with the longest lines.
-pub fn tell_lengths(rt: &HostRuntime) -> io::Result<()> {
+pub(crate) fn tell_lengths(rt: &HostRuntime) -> io::Result<()> {
     tell_long(rt, b"INPUT(a)\n#", b"x", 65525, &behind::COMMENT)?;
     tell_long(rt, b"", b"\n", 65535, &behind::NEWLINES)?;
     tell_long(rt, b")", b"\n", 65535, &behind::FAULT)?;

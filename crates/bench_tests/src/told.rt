@@ -1,4 +1,6 @@
 // What came of a text, in a line.
+ghost use Rattle.std.specs.Prelude.{◌≡◌};
+
 use bench::declarations::Declarations;
 use bench::fault::StatementFault;
 use report::lines::{counts_line, refusal_line};
@@ -19,7 +21,7 @@ fn write_outcome(
 }
 
 // Reads a text, and prints its label and what came of it.
-pub fn tell_text(rt: &HostRuntime, label: &[u8], text: &[u8]) -> io::Result<()> {
+pub(crate) fn tell_text(rt: &HostRuntime, label: &[u8], text: &[u8]) -> io::Result<()> {
     let mut declarations = Declarations::new(rt.alloc())?;
     let answer = declarations.read(text);
     let mut line = [0u8; 64];
@@ -31,16 +33,19 @@ pub fn tell_text(rt: &HostRuntime, label: &[u8], text: &[u8]) -> io::Result<()> 
 }
 
 // Each text is a long one and a few bytes behind it, which are taken away again.
-pub fn tell_behind(
+pub(crate) fn tell_behind(
     rt: &HostRuntime,
     text: &mut Vec<u8>,
     cases: &[(&[u8], &[u8])],
-) -> io::Result<()> {
+) -> io::Result<()>
+    ensures { text.new.items ≡ text.old.items }
+{
     let length = text.len();
     for (label, behind) in cases {
         text.extend_from_slice(behind)?;
-        tell_text(rt, label, text.as_slice())?;
+        let told = tell_text(rt, label, text.as_slice());
         text.truncate(length);
+        told?;
     }
     Ok(())
 }

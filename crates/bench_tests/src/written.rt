@@ -49,7 +49,7 @@ fn push_meant(text: &mut Vec<u8>, written: &[u8]) -> Result<(), AllocError> {
     Ok(())
 }
 
-pub fn tell_written(rt: &HostRuntime) -> io::Result<()> {
+pub(crate) fn tell_written(rt: &HostRuntime) -> io::Result<()> {
     let mut input = String::new(rt.alloc());
     rt.stdin().read_to_string(&mut input)?;
     let mut text = Vec::with_capacity(rt.alloc(), LONGEST)?;

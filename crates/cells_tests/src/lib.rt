@@ -1,7 +1,7 @@
 // Tests of the stack, at net numbers and at a record. Their own crate, since a crate with tests is proved twice.
 #![tactic(auto)]
 
-ghost use Rattle.std.specs.Prelude.{◌≡◌, []};
+ghost use Rattle.std.specs.Prelude.{◌≡◌, [], length};
 ghost use Rattle.cells.specs.Stacks.{held};
 
 use cells::stack::Stack;
@@ -14,7 +14,8 @@ pub struct Step {
 
 // Empties the stack, and says how many elements it took.
 pub fn drain(stack: &mut Stack<'_, u16>) -> usize
-    ensures { held stack.new ≡ [] }
+    ensures emptied { held stack.new ≡ [] }
+    ensures taken { result ≡ length (held stack.old) }
 {
     let taken = stack.len();
     while let Some(_) = stack.pop() {}

@@ -2,8 +2,11 @@
 // The pins that read a net and the faults of a class are such chains.
 #![tactic(auto)]
 
-ghost use Rattle.std.specs.Prelude.{◌≡◌, ℕ, ◌<◌, ◌≤◌, length, IfOk, slice_index};
-ghost use Rattle.chains.specs.Chains.{Chained, FirstPlaces, NextPlaces};
+ghost use Rattle.std.specs.Prelude.{◌≡◌, ℕ, ◌<◌, ◌≤◌, length, slice_index};
+ghost use Rattle.std.specs.Bool.{OnTrue, OnFalse};
+ghost use Rattle.chains.specs.Chains.{FirstPlaces, NextPlaces};
+ghost use Rattle.chains.specs.Chaining.{AllBelow, ChainsOf};
+ghost use Rattle.chains.specs.declared.ChainFault.TheVariants.{Memory};
 
 use std::alloc::{AllocError, Global};
 
@@ -12,6 +15,22 @@ use std::alloc::{AllocError, Global};
 pub struct Chains {
     pub first: Vec<u16>,
     pub next: Vec<u16>,
+}
+
+// Why a table has no chains: no memory for them, more keys than places have numbers, or a key that is not below the count.
+#[derive(Clone, Copy, Debug, PartialEq)]
+pub enum ChainFault {
+    Memory,
+    ManyKeys,
+    HighKey,
+}
+
+impl From<AllocError> for ChainFault {
+    ghost from_gives = { λ _ r. r ≡ Memory };
+
+    fn from(_e: AllocError) -> ChainFault {
+        ChainFault::Memory
+    }
 }
 
 fn link(keys: &[u16], first: &mut [u16], next: &mut [u16])
@@ -31,12 +50,28 @@ fn link(keys: &[u16], first: &mut [u16], next: &mut [u16])
     }
 }
 
-// An inner call: the chains of a table whose keys are below count.
-pub fn chain(heap: Global, keys: &[u16], count: usize) -> Result<Chains, AllocError>
-    requires few { length keys.now ≤ 65535 }
-    requires keys { (i : ℕ) → i < length keys.now → slice_index keys.now i < count }
-    ensures { IfOk result (λ c. Chained keys.now count c.first.items c.next.items) }
+fn all_below(keys: &[u16], count: usize) -> bool
+    ensures yes { OnTrue result (AllBelow keys.now count) }
+    ensures no { OnFalse result ((i : ℕ) × (i < length keys.now) × (count ≤ slice_index keys.now i)) }
 {
+    for key in keys {
+        if usize::from(*key) >= count {
+            return false;
+        }
+    }
+    true
+}
+
+// The chains of a table of at most 65,535 keys, all below count.
+pub fn chain(heap: Global, keys: &[u16], count: usize) -> Result<Chains, ChainFault>
+    ensures { ChainsOf keys.now count result }
+{
+    if keys.len() > 65535 {
+        return Err(ChainFault::ManyKeys);
+    }
+    if !all_below(keys, count) {
+        return Err(ChainFault::HighKey);
+    }
     let none = keys.len() as u16;
     let mut first = vec![in heap; none; count]?;
     let mut next = vec![in heap; none; keys.len()]?;

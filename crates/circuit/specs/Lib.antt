@@ -2,3 +2,4 @@ pub mod Circuit
 pub mod Circles
 pub mod Listed
 pub mod Tables
+pub mod Computed

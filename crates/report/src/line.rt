@@ -22,7 +22,7 @@ fn fits(pieces: &[Piece<'_>], room: usize) -> bool
 }
 
 // Writes the pieces at the start of a buffer, or nothing where it is too short.
-pub fn write(out: &mut [u8], pieces: &[Piece<'_>]) -> Result<usize, ShortBuffer>
+pub(crate) fn write(out: &mut [u8], pieces: &[Piece<'_>]) -> Result<usize, ShortBuffer>
     ensures { Written (all_bytes pieces.now) out.old result out.new }
 {
     if !fits(pieces, out.len()) {

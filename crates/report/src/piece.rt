@@ -12,7 +12,7 @@ pub enum Piece<'a> {
     Number(usize),
 }
 
-pub fn piece_len(piece: Piece<'_>) -> usize
+pub(crate) fn piece_len(piece: Piece<'_>) -> usize
     ensures { result ≡ length (bytes piece.entry) }
 {
     match piece {
@@ -22,7 +22,7 @@ pub fn piece_len(piece: Piece<'_>) -> usize
 }
 
 // Writes a piece at the start of a buffer that has room for it.
-pub fn put(out: &mut [u8], piece: Piece<'_>) -> usize
+pub(crate) fn put(out: &mut [u8], piece: Piece<'_>) -> usize
     requires { length (bytes piece) ≤ length out.old }
     ensures { Placed (bytes piece.entry) out.old result out.new }
 {
