@@ -17,7 +17,7 @@ pub struct Chains {
     pub next: Vec<u16>,
 }
 
-// Why a table has no chains: no memory for them, more keys than places have numbers, or a key that is not below the count.
+// Why a table has no chains: no memory for them, more keys than places have numbers, or a key not below the count.
 #[derive(Clone, Copy, Debug, PartialEq)]
 pub enum ChainFault {
     Memory,
@@ -54,12 +54,7 @@ fn all_below(keys: &[u16], count: usize) -> bool
     ensures yes { OnTrue result (AllBelow keys.now count) }
     ensures no { OnFalse result ((i : ℕ) × (i < length keys.now) × (count ≤ slice_index keys.now i)) }
 {
-    for key in keys {
-        if usize::from(*key) >= count {
-            return false;
-        }
-    }
-    true
+    keys.iter().all(|key| usize::from(*key) < count)
 }
 
 // The chains of a table of at most 65,535 keys, all below count.
