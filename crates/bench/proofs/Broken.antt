@@ -1,5 +1,5 @@
 -- Which rules a line breaks, from the statement that it spells.
-use Rattle.std.proofs.Common.{◌≡◌, ℕ, ◌<◌, Bool, true, false, cond, ◌||◌, eqb, List, length, Some, None, Ok, Err, codes, sym, refl, ap, ◌∙◌, subst, arith}
+use Rattle.std.proofs.Common.{◌≡◌, ℕ, ◌<◌, ◌≤◌, Bool, true, false, cond, ◌||◌, eqb, List, [], length, Some, Ok, Err, Option, codes, sym, refl, ap, ◌∙◌, subst, arith}
 use Rattle.std.proofs.lemmas.Bool.{both_ways}
 use Rattle.model.specs.declared.kind.Kind.{Kind}
 use Rattle.model.specs.declared.kind.Kind.TheVariants.{And, Nand, Or, Nor, Xor, Xnor, Not, Buff}
@@ -8,8 +8,11 @@ use Rattle.model.specs.Kinds.{word, takes, several_operands}
 use Rattle.model.specs.Refusals.{refusal}
 use Rattle.grammar.specs.Grammar.{Statement, input, output, gate, Spells}
 use Rattle.grammar.specs.Rules.{Declaration, NoStatement, LongName, UnknownKind, OperandCount, Redefines, Relists, BeyondLimit, Breaks, no_statement, long_name, unknown_kind, operand_count, defined_before, listed_before, beyond_limit}
+use Rattle.grammar.specs.Proper.{ProperStatement}
 use Rattle.grammar.specs.Reading.{Refused}
 use Rattle.grammar.proofs.Once.{same_statement}
+use Rattle.grammar.proofs.Properly.{proper_statement}
+use Rattle.grammar.proofs.Props.{same_kind}
 use Rattle.names.specs.declared.name.Name.{Name}
 use Rattle.text.specs.declared.cursor.Cursor.{Cursor}
 use Rattle.text.specs.declared.fault.TextFault.{TextFault}
@@ -23,7 +26,7 @@ use Rattle.text.specs.Windows.{bytes}
 use Rattle.bench.specs.declared.fault.StatementFault.TheVariants.{Text}
 use Rattle.bench.specs.declared.fault.StatementFault.TheVariants as refuses
 use Rattle.bench.specs.declared.statement.Statement.TheVariants as statement
-use Rattle.bench.specs.Statements.{CleanAlone, Written, StatementReads}
+use Rattle.bench.specs.Statements.{CleanAlone, StatementReads}
 
 -- the rules that a statement breaks
 pub data Meets (ds : List Declaration) (k : ℕ) (s : Statement) : ℕ → Type 0 where
@@ -60,40 +63,21 @@ refused_3 ds k line b = record { broken = no_statement b; smallest = below }
     below m g (listed_before t e c) = omega (arith, g)
     below m g (beyond_limit t e c) = omega (arith, g)
 
-below_4 : (ds : List Declaration) (k : ℕ) (s : Statement) (m : ℕ) → m < 4 → Meets ds k s m → ⊥
-below_4 ds k s m g (long c) = omega (arith, g)
-below_4 ds k s m g (unknown c) = omega (arith, g)
-below_4 ds k s m g (miscounted c) = omega (arith, g)
-below_4 ds k s m g (redefines c) = omega (arith, g)
-below_4 ds k s m g (relists c) = omega (arith, g)
-below_4 ds k s m g (beyond c) = omega (arith, g)
+-- a statement that breaks none of the rules of a smaller number than n
+pub below : (ds : List Declaration) (k : ℕ) (s : Statement) (n : ℕ) → (4 < n → LongName s → ⊥) → (5 < n → UnknownKind s → ⊥) → (6 < n → OperandCount s → ⊥) → (7 < n → Redefines ds s → ⊥) → (8 < n → Relists ds s → ⊥) → (9 < n → BeyondLimit ds k s → ⊥) → (m : ℕ) → m < n → Meets ds k s m → ⊥
+below ds k s n a b c d e f m g (long h) = a g h
+below ds k s n a b c d e f m g (unknown h) = b g h
+below ds k s n a b c d e f m g (miscounted h) = c g h
+below ds k s n a b c d e f m g (redefines h) = d g h
+below ds k s n a b c d e f m g (relists h) = e g h
+below ds k s n a b c d e f m g (beyond h) = f g h
 
-below_5 : (ds : List Declaration) (k : ℕ) (s : Statement) → (LongName s → ⊥) → (m : ℕ) → m < 5 → Meets ds k s m → ⊥
-below_5 ds k s a m g (long c) = a c
-below_5 ds k s a m g (unknown c) = omega (arith, g)
-below_5 ds k s a m g (miscounted c) = omega (arith, g)
-below_5 ds k s a m g (redefines c) = omega (arith, g)
-below_5 ds k s a m g (relists c) = omega (arith, g)
-below_5 ds k s a m g (beyond c) = omega (arith, g)
-
-below_6 : (ds : List Declaration) (k : ℕ) (s : Statement) → (LongName s → ⊥) → (UnknownKind s → ⊥) → (m : ℕ) → m < 6 → Meets ds k s m → ⊥
-below_6 ds k s a b m g (long c) = a c
-below_6 ds k s a b m g (unknown c) = b c
-below_6 ds k s a b m g (miscounted c) = omega (arith, g)
-below_6 ds k s a b m g (redefines c) = omega (arith, g)
-below_6 ds k s a b m g (relists c) = omega (arith, g)
-below_6 ds k s a b m g (beyond c) = omega (arith, g)
-
-below_7 : (ds : List Declaration) (k : ℕ) (s : Statement) → (LongName s → ⊥) → (UnknownKind s → ⊥) → (OperandCount s → ⊥) → (m : ℕ) → m < 7 → Meets ds k s m → ⊥
-below_7 ds k s a b d m g (long c) = a c
-below_7 ds k s a b d m g (unknown c) = b c
-below_7 ds k s a b d m g (miscounted c) = d c
-below_7 ds k s a b d m g (redefines c) = omega (arith, g)
-below_7 ds k s a b d m g (relists c) = omega (arith, g)
-below_7 ds k s a b d m g (beyond c) = omega (arith, g)
+-- a rule of no smaller number
+pub no : {A : Type 0} {i n : ℕ} → n ≤ i → i < n → A → ⊥
+no h g a = omega (arith, h, g)
 
 pub clean_alone : (l : Line) (s : Statement) → Spells (bytes l) s → (LongName s → ⊥) → (UnknownKind s → ⊥) → (OperandCount s → ⊥) → CleanAlone l
-clean_alone l s h a b d = λ ds n g c. below_7 ds l.number s a b d n g (meets (bytes l) s h c)
+clean_alone l s h a b d = λ ds n g c. below ds l.number s 7 (λ _. a) (λ _. b) (λ _. d) (no (omega arith)) (no (omega arith)) (no (omega arith)) n g (meets (bytes l) s h c)
 
 -- what the text layer refuses is refused
 pub text_refused : (l : Line) (e : TextFault) → TextReads l (Err e) → StatementReads l (Err (Text e))
@@ -101,35 +85,51 @@ text_refused l fault.TooLong h = absurd h
 text_refused l (fault.NoStatement k) h = (3, ap (refusal 3) h.0, λ ds. refused_3 ds l.number (bytes l) h.1)
 text_refused l (fault.LongName k) h =
     let s = h.1.0 in
-    (4, ap (refusal 4) h.0, λ ds. refused_by (bytes l) s h.1.1 ds l.number 4 (long_name s h.1.1 h.1.2) (below_4 ds l.number s))
+    (4, ap (refusal 4) h.0, λ ds. refused_by (bytes l) s h.1.1 ds l.number 4 (long_name s h.1.1 h.1.2) (below ds l.number s 4 (no (omega arith)) (no (omega arith)) (no (omega arith)) (no (omega arith)) (no (omega arith)) (no (omega arith))))
 
 -- a gate that the text layer has read
-gate_read : (l : Line) (r : Shape) (n k : Name) (c : Cursor) → TextReads l (Ok r) → r ≡ shape.Gate n k c → SpellsShort (bytes l) (gate n.bytes.now k.bytes.now (names_left c))
-gate_read l r n k c h e = let P : Shape → Type 0 = λ q. TextReads l (Ok q) in (subst P e h).0
+gate_read : (l : Line) (r : Option Shape) (n k : Name) (c : Cursor) → TextReads l (Ok r) → r ≡ Some (shape.Gate n k c) → SpellsShort (bytes l) (gate n.bytes.now k.bytes.now (names_left c))
+gate_read l r n k c h e = let P : Option Shape → Type 0 = λ q. TextReads l (Ok q) in (subst P e h).0
 
-pub unknown_refused : (l : Line) (r : Shape) (n k : Name) (c : Cursor) → TextReads l (Ok r) → r ≡ shape.Gate n k c → Written k.bytes.now None → StatementReads l (Err (refuses.UnknownKind l.number))
+pub unknown_refused : (l : Line) (r : Option Shape) (n k : Name) (c : Cursor) → TextReads l (Ok r) → r ≡ Some (shape.Gate n k c) → ((kind : Kind) → k.bytes.now ≡ word kind → ⊥) → StatementReads l (Err (refuses.UnknownKind l.number))
 unknown_refused l r n k c h e u =
     let g = gate_read l r n k c h e in
     let s = gate n.bytes.now k.bytes.now (names_left c) in
-    (5, refl, λ ds. refused_by (bytes l) s g.0 ds l.number 5 (unknown_kind s g.0 u) (below_5 ds l.number s g.1))
+    (5, refl, λ ds. refused_by (bytes l) s g.0 ds l.number 5 (unknown_kind s g.0 u) (below ds l.number s 5 (λ _. g.1) (no (omega arith)) (no (omega arith)) (no (omega arith)) (no (omega arith)) (no (omega arith))))
 
-pub miscount_refused : (l : Line) (r : Shape) (n k : Name) (c : Cursor) (kind : Kind) → TextReads l (Ok r) → r ≡ shape.Gate n k c → k.bytes.now ≡ word kind → takes kind (length (names_left c)) ≡ false → StatementReads l (Err (refuses.OperandCount l.number))
+pub miscount_refused : (l : Line) (r : Option Shape) (n k : Name) (c : Cursor) (kind : Kind) → TextReads l (Ok r) → r ≡ Some (shape.Gate n k c) → k.bytes.now ≡ word kind → takes kind (length (names_left c)) ≡ false → StatementReads l (Err (refuses.OperandCount l.number))
 miscount_refused l r n k c kind h e w f =
     let g = gate_read l r n k c h e in
     let s = gate n.bytes.now k.bytes.now (names_left c) in
-    (6, refl, λ ds. refused_by (bytes l) s g.0 ds l.number 6 (operand_count s g.0 (kind, w, f)) (below_6 ds l.number s g.1 (λ u. u kind w)))
+    (6, refl, λ ds. refused_by (bytes l) s g.0 ds l.number 6 (operand_count s g.0 (kind, w, f)) (below ds l.number s 6 (λ _. g.1) (λ _ u. u kind w) (no (omega arith)) (no (omega arith)) (no (omega arith)) (no (omega arith))))
 
-pub input_read : (l : Line) (r : Shape) (n : Name) → TextReads l (Ok r) → r ≡ shape.Input n → StatementReads l (Ok (Some (statement.Input n)))
+pub input_read : (l : Line) (r : Option Shape) (n : Name) → TextReads l (Ok r) → r ≡ Some (shape.Input n) → StatementReads l (Ok (Some (statement.Input n)))
 input_read l r n h e =
-    let P : Shape → Type 0 = λ q. TextReads l (Ok q) in
+    let P : Option Shape → Type 0 = λ q. TextReads l (Ok q) in
     let g = subst P e h in
     (g.0.0, clean_alone l (input n.bytes.now) g.0.0 g.0.1 (λ u. u) (λ u. u), g.1)
 
-pub output_read : (l : Line) (r : Shape) (n : Name) → TextReads l (Ok r) → r ≡ shape.Output n → StatementReads l (Ok (Some (statement.Output n)))
+pub output_read : (l : Line) (r : Option Shape) (n : Name) → TextReads l (Ok r) → r ≡ Some (shape.Output n) → StatementReads l (Ok (Some (statement.Output n)))
 output_read l r n h e =
-    let P : Shape → Type 0 = λ q. TextReads l (Ok q) in
+    let P : Option Shape → Type 0 = λ q. TextReads l (Ok q) in
     let g = subst P e h in
     (g.0.0, clean_alone l (output n.bytes.now) g.0.0 g.0.1 (λ u. u) (λ u. u), g.1)
+
+-- a statement whose line breaks no rule of its own is proper
+pub clean_proper : (l : Line) (s : Statement) → Spells (bytes l) s → CleanAlone l → ProperStatement s
+clean_proper l s h c =
+    proper_statement s (λ b. c [] 4 (omega arith) (long_name s h b)) (λ b. c [] 5 (omega arith) (unknown_kind s h b)) (λ b. c [] 6 (omega arith) (operand_count s h b))
+
+pub gate_accepted : (l : Line) (r : Option Shape) (n k : Name) (c : Cursor) (kind : Kind) → TextReads l (Ok r) → r ≡ Some (shape.Gate n k c) → k.bytes.now ≡ word kind → takes kind (length (names_left c)) ≡ true → StatementReads l (Ok (Some (statement.Gate n kind c)))
+gate_accepted l r n k c kind h e w f =
+    let P : Option Shape → Type 0 = λ q. TextReads l (Ok q) in
+    let g = subst P e h in
+    let s : List ℕ → Statement = λ v. gate n.bytes.now v (names_left c) in
+    let Q : List ℕ → Type 0 = λ v. Spells (bytes l) (s v) in (
+      subst Q w g.0.0,
+      clean_alone l (s k.bytes.now) g.0.0 g.0.1 (λ u. u kind w) (λ u. both_ways (takes kind (length (names_left c))) (ap (λ (j : Kind). takes j (length (names_left c))) (same_kind kind u.0 (sym w ∙ u.1)) ∙ u.2) f),
+      (g.1, g.2),
+    )
 
 -- how many operands a kind takes, by the word for it
 takes_word : List ℕ → ℕ → Bool
@@ -145,17 +145,3 @@ takes_by_word Xor n = refl
 takes_by_word Xnor n = refl
 takes_by_word Not n = refl
 takes_by_word Buff n = refl
-
-same_takes : (w : List ℕ) (j k : Kind) (n : ℕ) → w ≡ word j → w ≡ word k → takes j n ≡ takes k n
-same_takes w j k n e f = sym (takes_by_word j n) ∙ ap (λ (v : List ℕ). takes_word v n) (sym e ∙ f) ∙ takes_by_word k n
-
-pub gate_accepted : (l : Line) (r : Shape) (n k : Name) (c : Cursor) (kind : Kind) → TextReads l (Ok r) → r ≡ shape.Gate n k c → k.bytes.now ≡ word kind → takes kind (length (names_left c)) ≡ true → StatementReads l (Ok (Some (statement.Gate n kind c)))
-gate_accepted l r n k c kind h e w f =
-    let P : Shape → Type 0 = λ q. TextReads l (Ok q) in
-    let g = subst P e h in
-    let s : List ℕ → Statement = λ v. gate n.bytes.now v (names_left c) in
-    let Q : List ℕ → Type 0 = λ v. Spells (bytes l) (s v) in (
-      subst Q w g.0.0,
-      clean_alone l (s k.bytes.now) g.0.0 g.0.1 (λ u. u kind w) (λ u. both_ways (takes kind (length (names_left c))) (same_takes k.bytes.now kind u.0 (length (names_left c)) w u.1 ∙ u.2) f),
-      (g.1, g.2),
-    )

@@ -1,3 +1,3 @@
 mod Broken
-mod Limits
+mod Counted
 mod Steps

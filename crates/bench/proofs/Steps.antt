@@ -1,11 +1,10 @@
 -- From what a line does to the declarations to what a whole text does.
-use Rattle.std.proofs.Common.{◌≡◌, ℕ, suc, ◌<◌, ◌≤◌, List, [], ◌∷◌, ◌++◌, map, Some, None, Ok, Err, Result, sym, refl, ap, ◌∙◌, subst, inr, ⊎_elim, add-one, arith}
-use Rattle.std.proofs.lemmas.Bool.{cases_lt}
+use Rattle.std.proofs.Common.{◌≡◌, ℕ, suc, ◌<◌, List, [], ◌∷◌, ◌++◌, map, Some, None, Ok, Err, Result, sym, refl, ap, ◌∙◌, subst, inr, ⊎_elim, add-one, arith}
 use Rattle.std.proofs.lemmas.List.{map_push}
 use Rattle.names.specs.Places.{Stands}
 use Rattle.grammar.specs.Lines.{lines}
 use Rattle.grammar.specs.Grammar.{Statement, Spells, SaysNothing}
-use Rattle.grammar.specs.Rules.{Declaration, Redefines, Relists, BeyondLimit, Breaks, defined_before, listed_before, beyond_limit}
+use Rattle.grammar.specs.Rules.{Declaration, Redefines, Relists, BeyondLimit, Breaks, long_name, unknown_kind, operand_count, defined_before, listed_before, beyond_limit}
 use Rattle.grammar.specs.Reading.{Accepted, Answer, accepted, refused, ReadsFrom, at_end, silent, declares, refuses}
 use Rattle.model.specs.Refusals.{refusal}
 use Rattle.text.specs.declared.reader.Line.{Line}
@@ -20,42 +19,15 @@ use Rattle.bench.specs.declared.statement.Statement.TheVariants as statement
 use Rattle.bench.specs.declared.statement.Declaration as code-d
 use Rattle.bench.specs.Statements.{said, declaration, StatementPlaced, StandsIn, AllStand, CleanAlone, StatementReads}
 use Rattle.bench.specs.SoFar.{items, declared, Grows, Declares, ReadsLine}
-use Rattle.bench.proofs.Broken.{Meets, long, unknown, miscounted, redefines, relists, beyond, meets}
+use Rattle.bench.proofs.Broken.{meets, below, no}
 
 -- a line whose own rules hold, after some declarations
 module _ (l : Line) (ds : List Declaration) (s : Statement) (h : Spells (bytes l) s) (clean : CleanAlone l) where
-  below_8 : (Redefines ds s → ⊥) → (m : ℕ) → m < 8 → Breaks ds l.number (bytes l) m → ⊥
-  below_8 a m g b = ⊎_elim (λ i. clean ds m i b) (λ i. at m i g (meets (bytes l) s h b)) (cases_lt m 7)
-    where
-      at : (m : ℕ) → 7 ≤ m → m < 8 → Meets ds l.number s m → ⊥
-      at m i g (long c) = omega (arith, i)
-      at m i g (unknown c) = omega (arith, i)
-      at m i g (miscounted c) = omega (arith, i)
-      at m i g (redefines c) = a c
-      at m i g (relists c) = omega (arith, g)
-      at m i g (beyond c) = omega (arith, g)
-
-  below_9 : (Redefines ds s → ⊥) → (Relists ds s → ⊥) → (m : ℕ) → m < 9 → Breaks ds l.number (bytes l) m → ⊥
-  below_9 a r m g b = ⊎_elim (λ i. below_8 a m i b) (λ i. at m i g (meets (bytes l) s h b)) (cases_lt m 8)
-    where
-      at : (m : ℕ) → 8 ≤ m → m < 9 → Meets ds l.number s m → ⊥
-      at m i g (long c) = omega (arith, i)
-      at m i g (unknown c) = omega (arith, i)
-      at m i g (miscounted c) = omega (arith, i)
-      at m i g (redefines c) = omega (arith, i)
-      at m i g (relists c) = r c
-      at m i g (beyond c) = omega (arith, g)
+  keeps : (n : ℕ) → (7 < n → Redefines ds s → ⊥) → (8 < n → Relists ds s → ⊥) → (9 < n → BeyondLimit ds l.number s → ⊥) → (m : ℕ) → m < n → Breaks ds l.number (bytes l) m → ⊥
+  keeps n a b c m g x = below ds l.number s n (λ _ y. clean ds 4 (omega arith) (long_name s h y)) (λ _ y. clean ds 5 (omega arith) (unknown_kind s h y)) (λ _ y. clean ds 6 (omega arith) (operand_count s h y)) a b c m g (meets (bytes l) s h x)
 
   accepts : (Redefines ds s → ⊥) → (Relists ds s → ⊥) → (BeyondLimit ds l.number s → ⊥) → Accepted ds l.number (bytes l) s
-  accepts a r o = record { spelled = h; clean = λ n b. ⊎_elim (λ i. below_9 a r n i b) (λ i. at n i (meets (bytes l) s h b)) (cases_lt n 9) }
-    where
-      at : (m : ℕ) → 9 ≤ m → Meets ds l.number s m → ⊥
-      at m i (long c) = omega (arith, i)
-      at m i (unknown c) = omega (arith, i)
-      at m i (miscounted c) = omega (arith, i)
-      at m i (redefines c) = omega (arith, i)
-      at m i (relists c) = omega (arith, i)
-      at m i (beyond c) = o c
+  accepts a r o = record { spelled = h; clean = λ n b. keeps (suc n) (λ _. a) (λ _. r) (λ _. o) n (omega arith) b }
 
 pub statement_line : (d e : Declarations) (l : Line) (s : code.Statement) (r : Result (Unit {0}) StatementFault) → StatementReads l (Ok (Some s)) → Declares d l.number s r e → ReadsLine d l r e
 statement_line d e l s (Ok u) h c =
@@ -63,9 +35,9 @@ statement_line d e l s (Ok u) h c =
 statement_line d e l s (Err (fault.DefinedBefore j)) h c =
     (7, ap (refusal 7) c.0, record { broken = defined_before (said s) h.0 c.1; smallest = λ m g b. h.1 (declared d) m g b }, c.2)
 statement_line d e l s (Err (fault.ListedBefore j)) h c =
-    (8, ap (refusal 8) c.0, record { broken = listed_before (said s) h.0 c.2; smallest = below_8 l (declared d) (said s) h.0 h.1 c.1 }, c.3)
+    (8, ap (refusal 8) c.0, record { broken = listed_before (said s) h.0 c.2; smallest = keeps l (declared d) (said s) h.0 h.1 8 (λ _. c.1) (no (omega arith)) (no (omega arith)) }, c.3)
 statement_line d e l s (Err (fault.BeyondLimit j)) h c =
-    (9, ap (refusal 9) c.0, record { broken = beyond_limit (said s) h.0 c.3; smallest = below_9 l (declared d) (said s) h.0 h.1 c.1 c.2 }, c.4)
+    (9, ap (refusal 9) c.0, record { broken = beyond_limit (said s) h.0 c.3; smallest = keeps l (declared d) (said s) h.0 h.1 9 (λ _. c.1) (λ _. c.2) (no (omega arith)) }, c.4)
 statement_line d e l s (Err (fault.Text f)) h c = absurd c
 statement_line d e l s (Err (fault.UnknownKind j)) h c = absurd c
 statement_line d e l s (Err (fault.OperandCount j)) h c = absurd c

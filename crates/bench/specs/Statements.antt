@@ -1,13 +1,13 @@
 -- What the reader of statements answers of a line.
-use Rattle.std.specs.Prelude.{◌≡◌, ℕ, ◌<◌, List, [], ◌∷◌, Some, None, Ok, Err, Option, Result, ◌≢◌}
-use Rattle.model.specs.declared.kind.Kind.{Kind}
+use Rattle.std.specs.Prelude.{◌≡◌, ℕ, ◌<◌, List, [], ◌∷◌, length, Some, None, Ok, Err, Option, Result}
+use Rattle.model.specs.declared.counts.Counts.{Counts}
 use Rattle.model.specs.Kinds.{word}
 use Rattle.model.specs.Refusals.{refusal}
 use Rattle.names.specs.declared.name.Name.{Name}
 use Rattle.names.specs.Places.{Stands}
 use Rattle.grammar.specs.Grammar.{input, output, gate, Spells, SaysNothing}
 use Rattle.grammar.specs.Grammar as grammar
-use Rattle.grammar.specs.Rules.{Breaks}
+use Rattle.grammar.specs.Rules.{Breaks, Among, net_of, input_of, output_of, pins_of}
 use Rattle.grammar.specs.Rules as rules
 use Rattle.grammar.specs.Reading.{Refused}
 use Rattle.text.specs.declared.reader.Line.{Line}
@@ -19,15 +19,34 @@ use Rattle.bench.specs.declared.statement.Statement.TheVariants as statement
 use Rattle.bench.specs.declared.statement.Declaration.{Declaration}
 use Rattle.bench.specs.Faults.{statement_refusal}
 
--- the bytes of these kinds are written so, or of none
-abbrev pub Written : List ℕ → Option Kind → Type 0
-Written w (Some k) = w ≡ word k
-Written w None = (k : Kind) → w ≢ word k
-
 abbrev pub said : Statement → grammar.Statement
 said (statement.Input n) = input n.bytes.now
 said (statement.Output n) = output n.bytes.now
 said (statement.Gate n k c) = gate n.bytes.now (word k) (names_left c)
+
+-- the name of the net that it defines, and of the one that it lists as an output
+abbrev pub net_name : Statement → Option Name
+net_name (statement.Input n) = Some n
+net_name (statement.Output n) = None
+net_name (statement.Gate n k c) = Some n
+
+abbrev pub output_name : Statement → Option Name
+output_name (statement.Input n) = None
+output_name (statement.Output n) = Some n
+output_name (statement.Gate n k c) = None
+
+-- a name, where there is one, as a list, and that it stands among others
+abbrev pub names_in : Option Name → List (List ℕ)
+names_in None = []
+names_in (Some n) = n.bytes.now ∷ []
+
+abbrev pub Holds : List (List ℕ) → Option Name → Type 0
+Holds ns None = ⊥
+Holds ns (Some n) = Among ns n.bytes.now
+
+-- how many nets, inputs, outputs and pins it adds
+abbrev pub size_of : grammar.Statement → Counts
+size_of s = record { nets = length (net_of s); inputs = length (input_of s); outputs = length (output_of s); pins = length (pins_of s) }
 
 abbrev pub declaration : Declaration → rules.Declaration
 declaration d = record { line = d.line; says = said d.says }

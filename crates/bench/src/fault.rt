@@ -2,12 +2,11 @@
 ghost use Rattle.std.specs.Prelude.{◌≡◌};
 ghost use Rattle.bench.specs.declared.fault.StatementFault.TheVariants.{Text};
 ghost use Rattle.bench.specs.Faults.{statement_refusal};
-ghost use Rattle.model.specs.declared.refusal.Layer.TheVariants.{Text as text, Statement as statement};
 
-use model::refusal::{Layer, Refusal};
+use model::refusal::Refusal;
 use text::fault::TextFault;
 
-#[derive(Clone, Copy)]
+#[derive(Clone, Copy, Debug, PartialEq, Eq)]
 pub enum StatementFault {
     Text(TextFault),
     UnknownKind(usize),
@@ -25,40 +24,18 @@ impl From<TextFault> for StatementFault {
     }
 }
 
-fn of_text(number: u8, line: usize) -> Refusal
-    ensures { result ≡ record { number = number; line = line; layer = text } }
-{
-    Refusal {
-        number,
-        line,
-        layer: Layer::Text,
-    }
-}
+// The number, the line and the layer of a refusal.
+impl From<StatementFault> for Refusal {
+    ghost from_gives = { λ e r. r ≡ statement_refusal e };
 
-fn of_statement(number: u8, line: usize) -> Refusal
-    ensures { result ≡ record { number = number; line = line; layer = statement } }
-{
-    Refusal {
-        number,
-        line,
-        layer: Layer::Statement,
-    }
-}
-
-impl StatementFault {
-    // The number, the line and the layer of a refusal.
-    pub fn refusal(self) -> Refusal
-        ensures { result ≡ statement_refusal self }
-    {
-        match self {
-            StatementFault::Text(TextFault::TooLong) => of_text(2, 0),
-            StatementFault::Text(TextFault::NoStatement(line)) => of_text(3, line),
-            StatementFault::Text(TextFault::LongName(line)) => of_text(4, line),
-            StatementFault::UnknownKind(line) => of_statement(5, line),
-            StatementFault::OperandCount(line) => of_statement(6, line),
-            StatementFault::DefinedBefore(line) => of_statement(7, line),
-            StatementFault::ListedBefore(line) => of_statement(8, line),
-            StatementFault::BeyondLimit(line) => of_statement(9, line),
+    fn from(e: StatementFault) -> Refusal {
+        match e {
+            StatementFault::Text(fault) => Refusal::from(fault),
+            StatementFault::UnknownKind(line) => Refusal::new(5, line),
+            StatementFault::OperandCount(line) => Refusal::new(6, line),
+            StatementFault::DefinedBefore(line) => Refusal::new(7, line),
+            StatementFault::ListedBefore(line) => Refusal::new(8, line),
+            StatementFault::BeyondLimit(line) => Refusal::new(9, line),
         }
     }
 }

@@ -3,4 +3,5 @@
 
 pub mod declarations;
 pub mod fault;
+pub mod limits;
 pub mod statement;

@@ -6,9 +6,7 @@ mod long;
 mod told;
 mod written;
 
-use std::io;
-
-fn main(rt: HostRuntime) -> io::Result<()> {
+fn main(rt: HostRuntime) -> anyhow::Result<()> {
     written::tell_written(&rt)?;
     long::tell_limits(&rt)?;
     long::tell_lengths(&rt)

@@ -1,18 +1,18 @@
 // Texts that are written out on standard input, a line for each: its label, `|`, and the text with escapes.
+ghost use Rattle.std.specs.Prelude.{◌<◌, length, IfSome};
+
 use crate::told::tell_text;
 use std::alloc::AllocError;
-use std::io;
 use std::io::Read;
 
 // No text that is written out is longer.
 const LONGEST: usize = 128;
 
-fn hex(digit: u8) -> u8 {
-    match digit {
-        b'0'..=b'9' => digit - b'0',
-        b'a'..=b'f' => digit - b'a' + 10,
-        _ => 0,
-    }
+// What a hexadecimal digit stands for; 0 for any other letter, which no text has there.
+fn hex(digit: u8) -> u8
+    ensures { result < 16 }
+{
+    char::from(digit).to_digit(16).unwrap_or(0) as u8
 }
 
 // The byte that a letter behind a backslash means.
@@ -25,31 +25,28 @@ fn escaped(letter: u8) -> u8 {
     }
 }
 
-// The first byte that is meant, and how many bytes more than one are written for it.
-fn first_meant(written: &[u8]) -> (u8, u8) {
+// The first byte that is meant, and what is written behind it.
+fn first_meant(written: &[u8]) -> Option<(u8, &[u8])>
+    ensures { IfSome result (λ meant. length meant.1.now < length written.now) }
+{
     match written {
-        [b'\\', b'x', high, low, ..] => (hex(*high).wrapping_mul(16) | hex(*low), 3),
-        [b'\\', letter, ..] => (escaped(*letter), 1),
-        [byte, ..] => (*byte, 0),
-        [] => (0, 0),
+        [b'\\', b'x', high, low, behind @ ..] => Some((hex(*high) * 16 + hex(*low), behind)),
+        [b'\\', letter, behind @ ..] => Some((escaped(*letter), behind)),
+        [byte, behind @ ..] => Some((*byte, behind)),
+        [] => None,
     }
 }
 
 fn push_meant(text: &mut Vec<u8>, written: &[u8]) -> Result<(), AllocError> {
-    let mut rest = 0;
-    for at in 0..written.len() {
-        if rest > 0 {
-            rest -= 1;
-            continue;
-        }
-        let (byte, more) = first_meant(&written[at..]);
+    let mut rest = written;
+    while let Some((byte, behind)) = first_meant(rest) {
         text.push(byte)?;
-        rest = more;
+        rest = behind;
     }
     Ok(())
 }
 
-pub(crate) fn tell_written(rt: &HostRuntime) -> io::Result<()> {
+pub(crate) fn tell_written(rt: &HostRuntime) -> anyhow::Result<()> {
     let mut input = String::new(rt.alloc());
     rt.stdin().read_to_string(&mut input)?;
     let mut text = Vec::with_capacity(rt.alloc(), LONGEST)?;
@@ -57,7 +54,7 @@ pub(crate) fn tell_written(rt: &HostRuntime) -> io::Result<()> {
         let (label, written) = line.split_once('|').unwrap_or((line, ""));
         text.clear();
         push_meant(&mut text, written.as_bytes())?;
-        tell_text(rt, label.as_bytes(), text.as_slice())?;
+        tell_text(rt, label, text.as_slice())?;
     }
     Ok(())
 }

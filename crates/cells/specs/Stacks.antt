@@ -1,6 +1,6 @@
 -- What a stack holds, and what each call makes of it.
 use Rattle.std.specs.Prelude.{◌≡◌, ℕ, List, [], ◌∷◌, ◌++◌, length, take, Some, None, Ok, Err, Option, Result}
-use Rattle.cells.specs.declared.stack.Full.{Full}
+use Rattle.model.specs.declared.full.Full.{Full}
 use Rattle.cells.specs.declared.stack.Stack.{Stack}
 
 -- the elements that a stack holds, the newest last

@@ -4,21 +4,39 @@
 
 ghost use Rattle.std.specs.Prelude.{◌≡◌, ℕ, ◌<◌, ◌≤◌, length, slice_index};
 ghost use Rattle.std.specs.Bool.{OnTrue, OnFalse};
-ghost use Rattle.chains.specs.Chains.{FirstPlaces, NextPlaces};
+ghost use Rattle.chains.specs.Chains.{Chained};
 ghost use Rattle.chains.specs.Chaining.{AllBelow, ChainsOf};
 ghost use Rattle.chains.specs.declared.ChainFault.TheVariants.{Memory};
 
 use std::alloc::{AllocError, Global};
 
-// The table's length stands for no place.
-#[derive(Drop)]
+// The number of keys stands for no place, and not `None`: fixed links of 16 bits are a rule of the project.
+#[derive(Debug, PartialEq, Eq, Drop)]
 pub struct Chains {
     pub first: Vec<u16>,
     pub next: Vec<u16>,
 }
 
+impl Chains {
+    // Puts each place before those of its key, from the last one on.
+    #[tactic(auto, using(crate::proofs::Places::place_end, crate::proofs::Places::place_here, crate::proofs::Places::place_later))]
+    fn link(&mut self, keys: &[u16], places: u16)
+        requires places { places ≡ length keys.now }
+        requires keys { AllBelow keys.now (length self.old.first.items) }
+        requires unseen { (k : ℕ) → k < length self.old.first.items → slice_index self.old.first.items k ≡ places }
+        requires sizes { length self.old.next.items ≡ places }
+        ensures { Chained keys.now (length self.old.first.items) self.new.first.items self.new.next.items }
+    {
+        for at in (0..places).rev() {
+            let key = usize::from(keys[usize::from(at)]);
+            self.next[usize::from(at)] = self.first[key];
+            self.first[key] = at;
+        }
+    }
+}
+
 // Why a table has no chains: no memory for them, more keys than places have numbers, or a key not below the count.
-#[derive(Clone, Copy, Debug, PartialEq)]
+#[derive(Clone, Copy, Debug, PartialEq, Eq)]
 pub enum ChainFault {
     Memory,
     ManyKeys,
@@ -33,23 +51,6 @@ impl From<AllocError> for ChainFault {
     }
 }
 
-fn link(keys: &[u16], first: &mut [u16], next: &mut [u16])
-    requires few { length keys.now ≤ 65535 }
-    requires keys { (i : ℕ) → i < length keys.now → slice_index keys.now i < length first.old }
-    requires unseen { (k : ℕ) → k < length first.old → slice_index first.old k ≡ length keys.now }
-    requires sizes { length next.old ≡ length keys.now }
-    ensures first { FirstPlaces keys.now first.new }
-    ensures next { NextPlaces keys.now next.new }
-{
-    let mut at = keys.len();
-    while at > 0 {
-        at -= 1;
-        let key = keys[at] as usize;
-        next[at] = first[key];
-        first[key] = at as u16;
-    }
-}
-
 fn all_below(keys: &[u16], count: usize) -> bool
     ensures yes { OnTrue result (AllBelow keys.now count) }
     ensures no { OnFalse result ((i : ℕ) × (i < length keys.now) × (count ≤ slice_index keys.now i)) }
@@ -61,15 +62,14 @@ fn all_below(keys: &[u16], count: usize) -> bool
 pub fn chain(heap: Global, keys: &[u16], count: usize) -> Result<Chains, ChainFault>
     ensures { ChainsOf keys.now count result }
 {
-    if keys.len() > 65535 {
-        return Err(ChainFault::ManyKeys);
-    }
+    let places = u16::try_from(keys.len()).map_err(|_| ChainFault::ManyKeys)?;
     if !all_below(keys, count) {
         return Err(ChainFault::HighKey);
     }
-    let none = keys.len() as u16;
-    let mut first = vec![in heap; none; count]?;
-    let mut next = vec![in heap; none; keys.len()]?;
-    link(keys, first.as_mut_slice(), next.as_mut_slice());
-    Ok(Chains { first, next })
+    let mut chains = Chains {
+        first: vec![in heap; places; count]?,
+        next: vec![in heap; places; keys.len()]?,
+    };
+    chains.link(keys, places);
+    Ok(chains)
 }

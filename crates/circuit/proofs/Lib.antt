@@ -1,3 +1,4 @@
 pub mod Settle
 pub mod Tested
 pub mod Fit
+pub mod Formed

@@ -3,8 +3,7 @@ use Rattle.std.proofs.Common.{◌≡◌, ℕ, zero, suc, ◌<◌, ◌≤◌, Lis
 use Rattle.std.proofs.lemmas.List.{append-nil, append_assoc, length-append, length-map}
 use Rattle.grammar.specs.Grammar.{Statement, input, output, gate}
 use Rattle.grammar.specs.Rules.{Declaration, net_of, nets}
-use Rattle.elaborate.specs.Whole.{net_lines}
-use Rattle.elaborate.proofs.Reading.{Rising}
+use Rattle.elaborate.specs.Whole.{Rising, net_lines}
 
 pub lines_push : (ds : List Declaration) (d : Declaration) → net_lines (ds ++ d ∷ []) ≡ net_lines ds ++ map (λ (_ : List ℕ). d.line) (net_of d.says)
 lines_push [] d = append-nil (map (λ (_ : List ℕ). d.line) (net_of d.says))

@@ -9,11 +9,8 @@ use Rattle.grammar.specs.Rules.{Declaration, UnknownKind, Redefines, net_of, net
 use Rattle.grammar.specs.Reading.{Accepted, Answer, ReadsFrom, at_end, silent, declares, refuses, Reads, too_long, in_lines}
 use Rattle.grammar.specs.Proper.{Distinct}
 use Rattle.grammar.proofs.Properly.{distinct_push}
+use Rattle.elaborate.specs.Whole.{Rising}
 use Rattle.elaborate.proofs.Gathered.{nets_push}
-
--- the numbers of the lines rise
-abbrev pub Rising : List Declaration → Type 0
-Rising ds = (i j : ℕ) (d e : Declaration) → i < j → j < length ds → (get_or ds i d).line < (get_or ds j e).line
 
 -- declarations of the lines before line k
 pub record LineByLine (k : ℕ) (ds : List Declaration) : Type 0 where

@@ -7,8 +7,7 @@ use Rattle.grammar.specs.Grammar.{Statement}
 use Rattle.grammar.specs.Rules.{Declaration, Among, gathered, pins_of, output_of, nets, inputs, outputs, pins}
 use Rattle.circuit.specs.Circles.{DependsOnCircle, CircleFree, FirstDependent}
 use Rattle.elaborate.specs.Elaborate.{cells_of}
-use Rattle.elaborate.specs.Whole.{Undefined, net_lines, BreaksWhole, undefined_operand, undefined_output, no_input, no_output, needs_circle, RefusedWhole, AcceptedWhole}
-use Rattle.elaborate.proofs.Reading.{Rising}
+use Rattle.elaborate.specs.Whole.{Rising, Undefined, net_lines, BreaksWhole, undefined_operand, undefined_output, no_input, no_output, needs_circle, RefusedWhole, AcceptedWhole}
 use Rattle.elaborate.proofs.Gathered.{gathered_into}
 use Rattle.elaborate.proofs.Growth.{length-cells}
 use Rattle.elaborate.proofs.NetLines.{length-lines, lines_rise}

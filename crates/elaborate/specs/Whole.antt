@@ -1,5 +1,5 @@
 -- The rules that the whole declarations can break, each under the number of its refusal.
-use Rattle.std.specs.Prelude.{◌≡◌, ℕ, ◌<◌, List, [], ◌∷◌, ◌++◌, map, length, slice_index}
+use Rattle.std.specs.Prelude.{◌≡◌, ℕ, ◌<◌, List, [], ◌∷◌, ◌++◌, map, length, slice_index, slice_index_or}
 use Rattle.std.specs.List.{ContainsAt}
 use Rattle.grammar.specs.Rules.{Declaration, Among, net_of, pins_of, output_of, nets, inputs, outputs}
 use Rattle.circuit.specs.Circles.{DependsOnCircle}
@@ -7,6 +7,10 @@ use Rattle.elaborate.specs.Elaborate.{cells_of}
 
 abbrev pub Undefined : List Declaration → List ℕ → Type 0
 Undefined ds n = Among (nets ds) n → ⊥
+
+-- the numbers of the lines rise
+abbrev pub Rising : List Declaration → Type 0
+Rising ds = (i j : ℕ) (d e : Declaration) → i < j → j < length ds → (slice_index_or ds i d).line < (slice_index_or ds j e).line
 
 -- the line on which each net is defined, net by net
 abbrev pub net_lines : List Declaration → List ℕ

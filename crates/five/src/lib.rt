@@ -8,10 +8,9 @@ ghost use Rattle.model.proofs.OneLane.{operation_laws, word_laws};
 ghost use Rattle.five.specs.FiveAlgebraLemmas.{fives};
 ghost use Rattle.std.proofs.Common.{rules};
 
-use signal::lanes::Lanes;
 use signal::{Algebra, SearchAlgebra};
 
-#[derive(Clone, Copy)]
+#[derive(Clone, Copy, Debug, PartialEq, Eq)]
 pub enum Five {
     Zero,
     One,
@@ -21,9 +20,9 @@ pub enum Five {
 }
 
 impl Algebra for Five {
-    type Width = Lanes<1>;
+    const LANES: u32 = 1;
 
-    const LANES: Lanes<1> = Lanes::<1>::ONE;
+    ghost LANES = { 1 };
 
     ghost meaning = { five_meaning };
 
@@ -53,91 +52,53 @@ impl Algebra for Five {
     }
 
     fn and(self, other: Five) -> Five {
-        match self {
-            Five::Zero => Five::Zero,
-            Five::One => other,
-            Five::D => match other {
-                Five::Zero | Five::E => Five::Zero,
-                Five::One | Five::D => Five::D,
-                Five::X => Five::X,
-            },
-            Five::E => match other {
-                Five::Zero | Five::D => Five::Zero,
-                Five::One | Five::E => Five::E,
-                Five::X => Five::X,
-            },
-            Five::X => match other {
-                Five::Zero => Five::Zero,
-                Five::One | Five::D | Five::E | Five::X => Five::X,
-            },
+        match (self, other) {
+            (Five::Zero, _) | (_, Five::Zero) => Five::Zero,
+            (Five::One, v) | (v, Five::One) => v,
+            (Five::X, _) | (_, Five::X) => Five::X,
+            (Five::D, Five::D) => Five::D,
+            (Five::E, Five::E) => Five::E,
+            (Five::D, Five::E) | (Five::E, Five::D) => Five::Zero,
         }
     }
 
     fn or(self, other: Five) -> Five {
-        match self {
-            Five::Zero => other,
-            Five::One => Five::One,
-            Five::D => match other {
-                Five::Zero | Five::D => Five::D,
-                Five::One | Five::E => Five::One,
-                Five::X => Five::X,
-            },
-            Five::E => match other {
-                Five::Zero | Five::E => Five::E,
-                Five::One | Five::D => Five::One,
-                Five::X => Five::X,
-            },
-            Five::X => match other {
-                Five::One => Five::One,
-                Five::Zero | Five::D | Five::E | Five::X => Five::X,
-            },
+        match (self, other) {
+            (Five::One, _) | (_, Five::One) => Five::One,
+            (Five::Zero, v) | (v, Five::Zero) => v,
+            (Five::X, _) | (_, Five::X) => Five::X,
+            (Five::D, Five::D) => Five::D,
+            (Five::E, Five::E) => Five::E,
+            (Five::D, Five::E) | (Five::E, Five::D) => Five::One,
         }
     }
 
     fn xor(self, other: Five) -> Five {
-        match self {
-            Five::Zero => other,
-            Five::One => other.not(),
-            Five::D => match other {
-                Five::Zero => Five::D,
-                Five::One => Five::E,
-                Five::D => Five::Zero,
-                Five::E => Five::One,
-                Five::X => Five::X,
-            },
-            Five::E => match other {
-                Five::Zero => Five::E,
-                Five::One => Five::D,
-                Five::D => Five::One,
-                Five::E => Five::Zero,
-                Five::X => Five::X,
-            },
-            Five::X => Five::X,
+        match (self, other) {
+            (Five::X, _) | (_, Five::X) => Five::X,
+            (Five::Zero, v) | (v, Five::Zero) => v,
+            (Five::One, v) | (v, Five::One) => v.not(),
+            (Five::D, Five::D) | (Five::E, Five::E) => Five::Zero,
+            (Five::D, Five::E) | (Five::E, Five::D) => Five::One,
         }
     }
 
     fn stuck(self, at: bool) -> Five {
         match (self, at) {
             (Five::X, _) => Five::X,
-            (Five::Zero, false) | (Five::E, false) => Five::Zero,
-            (Five::Zero, true) | (Five::E, true) => Five::E,
-            (Five::One, false) | (Five::D, false) => Five::D,
-            (Five::One, true) | (Five::D, true) => Five::One,
+            (Five::Zero | Five::E, false) => Five::Zero,
+            (Five::Zero | Five::E, true) => Five::E,
+            (Five::One | Five::D, false) => Five::D,
+            (Five::One | Five::D, true) => Five::One,
         }
     }
 
     fn difference(self) -> u64 {
-        match self {
-            Five::D | Five::E => 1,
-            Five::Zero | Five::One | Five::X => 0,
-        }
+        u64::from(matches!(self, Five::D | Five::E))
     }
 
     fn good(self) -> u64 {
-        match self {
-            Five::One | Five::D => 1,
-            Five::Zero | Five::E | Five::X => 0,
-        }
+        u64::from(matches!(self, Five::One | Five::D))
     }
 }
 

@@ -4,3 +4,4 @@ pub mod Once
 pub mod LineEnds
 pub mod Answered
 pub mod Properly
+pub mod Props

@@ -50,7 +50,7 @@ short s n ns f g = ⊎_elim (λ h. absurd (f (g (grind (arith, nat_tests))))) (�
 first_long : (a b : Bool) → a ≡ true → (a || b) ≡ true
 first_long a b e = ap (λ (x : Bool). x || b) e
 
-proper_statement : (s : Statement) → (LongName s → ⊥) → (UnknownKind s → ⊥) → (OperandCount s → ⊥) → ProperStatement s
+pub proper_statement : (s : Statement) → (LongName s → ⊥) → (UnknownKind s → ⊥) → (OperandCount s → ⊥) → ProperStatement s
 proper_statement (input n) a b c = short (input n) n [] a (λ e. first_long _ _ e)
 proper_statement (output n) a b c = short (output n) n [] a (λ e. first_long _ _ e)
 proper_statement (gate n k os) a b c =
@@ -83,13 +83,14 @@ distinct_more ds (input n) h f = distinct_push (nets ds) n h f
 distinct_more ds (output n) h f = subst Distinct (sym (append-nil (nets ds))) h
 distinct_more ds (gate n k os) h f = distinct_push (nets ds) n h f
 
+pub proper_push : (ds : List Declaration) (k : ℕ) (s : Statement) → Proper ds → ProperStatement s → (Redefines ds s → ⊥) → Proper (ds ++ record { line = k; says = s } ∷ [])
+proper_push ds k s h p f =
+    let d : Declaration = record { line = k; says = s } in
+    record { all = all_more ds d h.all p; distinct = subst Distinct (sym (nets_more ds d)) (distinct_more ds s h.distinct f) }
+
 proper_more : (ds : List Declaration) (k : ℕ) (line : List ℕ) (s : Statement) → Accepted ds k line s → Proper ds → Proper (ds ++ record { line = k; says = s } ∷ [])
 proper_more ds k line s a h =
-    let d : Declaration = record { line = k; says = s } in
-    record {
-      all = all_more ds d h.all (proper_statement s (λ b. a.clean 4 (long_name s a.spelled b)) (λ b. a.clean 5 (unknown_kind s a.spelled b)) (λ b. a.clean 6 (operand_count s a.spelled b)));
-      distinct = subst Distinct (sym (nets_more ds d)) (distinct_more ds s h.distinct (λ b. a.clean 7 (defined_before s a.spelled b)));
-    }
+    proper_push ds k s h (proper_statement s (λ b. a.clean 4 (long_name s a.spelled b)) (λ b. a.clean 5 (unknown_kind s a.spelled b)) (λ b. a.clean 6 (operand_count s a.spelled b))) (λ b. a.clean 7 (defined_before s a.spelled b))
 
 proper_from : {k : ℕ} {ds : List Declaration} {ls : List (List ℕ)} {a : Answer} {es : List Declaration} → ReadsFrom k ds ls a es → Proper ds → Proper es
 proper_from (at_end k ds) h = h

@@ -1,7 +1,8 @@
 -- How a kind of gate is written, and how many operands it takes.
-use Rattle.std.specs.Prelude.{ℕ, Bool, ◌&&◌, List, codes, ◌==◌, nat_le}
+use Rattle.std.specs.Prelude.{◌≡◌, ◌≢◌, ℕ, Bool, ◌&&◌, List, codes, ◌==◌, nat_le, Ok, Err, Result}
 use Rattle.model.specs.declared.kind.Kind.{Kind}
 use Rattle.model.specs.declared.kind.Kind.TheVariants.{And, Nand, Or, Nor, Xor, Xnor, Not, Buff}
+use Rattle.model.specs.declared.kind.UnknownKind.{UnknownKind}
 
 -- the kinds as they are written
 abbrev pub word : Kind → List ℕ
@@ -27,3 +28,8 @@ takes Xor n = several_operands n
 takes Xnor n = several_operands n
 takes Not n = n == 1
 takes Buff n = n == 1
+
+-- the bytes are those of this kind, or of none
+abbrev pub Spelled : List ℕ → Result Kind UnknownKind → Type 0
+Spelled w (Ok k) = w ≡ word k
+Spelled w (Err _) = (k : Kind) → w ≢ word k

@@ -1,5 +1,5 @@
 // How large a netlist is.
-#[derive(Clone, Copy)]
+#[derive(Clone, Copy, Debug, PartialEq, Eq)]
 pub struct Counts {
     pub nets: usize,
     pub inputs: usize,

@@ -2,5 +2,6 @@
 #![tactic(auto)]
 
 pub mod counts;
+pub mod full;
 pub mod kind;
 pub mod refusal;

@@ -1,2 +1,2 @@
-mod Chains
-mod Held
+mod LastPlaces
+mod Buckets

@@ -1,29 +1,68 @@
-// The names seen so far, in order, with a quick look-up: each name hangs on the newest older one of its bucket.
-ghost use Rattle.std.specs.Prelude.{◌≡◌, ℕ, ◌<◌, ◌≤◌, [], map, vec_len, vec_capacity, slice_index, slice_index_or};
-ghost use Rattle.names.specs.Buckets.{bucket, last_in};
+// The names seen so far, in order, with a quick look-up: a map has the last place of each.
+ghost use Rattle.std.specs.Prelude.{◌≡◌, ℕ, ◌+◌, ◌<◌, ◌≤◌, [], map, length, vec_len, vec_capacity, IfOk};
+ghost use Rattle.std.specs.HashMap.{spare};
+ghost use Rattle.names.specs.Places.{bytes_of};
+ghost use Rattle.names.specs.LastPlaces.{HasLastPlaces, HasLastPlaces-prop};
 
 use crate::name::Name;
+use model::full::Full;
+use std::alloc::{AllocError, Global};
+use std::collections::HashMap;
 
-pub mod ops;
-
-// No room for one more name.
-#[derive(Clone, Copy)]
-pub struct Full;
-
-#[derive(Drop)]
+#[derive(Debug, Drop)]
 pub struct Names<'a> {
     names: Vec<Name<'a>>,
-    // by bucket, one more than the newest name's number, or 0
-    newest: Vec<u16>,
-    // by name, one more than the number of the next older one in its bucket, or 0
-    older: Vec<u16>,
-    most: usize,
+    // by its bytes, the last place of a name
+    places: HashMap<&'a [u8], u16>,
+    most: u16,
     ghost room: { most ≤ vec_capacity names },
-    ghost links: { most ≤ vec_capacity older },
-    ghost few: { most < 65536 },
     ghost within: { vec_len names ≤ most },
-    ghost paired: { vec_len older ≡ vec_len names },
-    ghost buckets: { vec_len newest ≡ 4096 },
-    ghost heads: { (b : ℕ) → b < 4096 → slice_index newest.items b ≡ last_in (map (λ n. n.bytes.now) names.items) b (vec_len names) },
-    ghost chains: { (i : ℕ) → i < vec_len names → slice_index older.items i ≡ last_in (map (λ n. n.bytes.now) names.items) (bucket (slice_index_or (map (λ n. n.bytes.now) names.items) i [])) i },
+    ghost place_room: { most ≤ vec_len names + spare places },
+    ghost last: { HasLastPlaces (map bytes_of names.items) places } by { HasLastPlaces-prop (map bytes_of names.items) places },
+}
+
+impl<'a> Names<'a> {
+    ghost use Rattle.names.specs.Tables.{held, LastPlace, Adds};
+
+    // A table without names, with memory for so many.
+    pub fn new(heap: Global, most: u16) -> Result<Names<'a>, AllocError>
+        ensures { IfOk result (λ t. (held t ≡ []) × (t.most ≡ most)) }
+    {
+        let names = Vec::with_capacity(heap, usize::from(most))?;
+        let places = HashMap::with_capacity(heap, usize::from(most))?;
+        Ok(Names {
+            names,
+            places,
+            most,
+        })
+    }
+
+    pub fn len(&self) -> usize
+        ensures { result ≡ length (held self.now) }
+    {
+        self.names.len()
+    }
+
+    // One name more, behind the others.
+    pub fn add(&mut self, name: Name<'a>) -> Result<(), Full>
+        ensures { Adds self.old name.entry.bytes.now result self.new }
+    {
+        let place = self.len();
+        if place >= usize::from(self.most) {
+            return Err(Full);
+        }
+        self.names.push_reserved(name);
+        // The place is below `most`, so that no bit is lost; and the map has room to spare, so that this never fails.
+        let put: Result<_, _> = self.places.insert(name.bytes, place as u16);
+        let _ = put.unwrap();
+        Ok(())
+    }
+
+    // The last place of a name.
+    #[tactic(auto, using(crate::proofs::LastPlaces::found))]
+    pub fn find(&self, bytes: &[u8]) -> Option<usize>
+        ensures { LastPlace (held self.now) bytes.now result }
+    {
+        self.places.get(bytes).map(|place| usize::from(*place))
+    }
 }

@@ -1,24 +1,29 @@
 -- One declaration more in the tables of the loader.
-use Rattle.std.proofs.Common.{◌≡◌, ℕ, ◌+◌, ◌≤◌, Bool, true, false, List, [], ◌∷◌, ◌++◌, length, vec_items, vec_len, MatchBool, sym, refl, ap, ◌∙◌, subst, arith}
-use Rattle.std.proofs.lemmas.List.{length-append}
+use Rattle.std.proofs.Common.{◌≡◌, ℕ, ◌+◌, ◌≤◌, List, [], ◌∷◌, ◌++◌, map, length, vec_items, vec_len, Ok, sym, refl, ap, ◌∙◌, subst, arith}
+use Rattle.std.proofs.lemmas.List.{append-nil, length-append, map_push}
 use Rattle.model.specs.declared.kind.Kind.{Kind}
 use Rattle.model.specs.Kinds.{word}
 use Rattle.names.specs.declared.name.Name.{Name}
 use Rattle.text.specs.declared.cursor.Cursor.{Cursor}
 use Rattle.text.specs.Tokens.{names_left}
-use Rattle.bench.specs.declared.statement.Statement as code
+use Rattle.bench.specs.declared.statement.Declaration as code
 use Rattle.bench.specs.declared.statement.Statement.TheVariants as statement
 use Rattle.bench.specs.Statements.{said}
 use Rattle.grammar.specs.Grammar.{Statement, input, output, gate}
-use Rattle.grammar.specs.Rules.{Declaration, inputs, input_of}
+use Rattle.grammar.specs.Rules.{Declaration, inputs, input_of, nets, net_of, pins_of}
 use Rattle.circuit.specs.declared.net.Net.{Net}
 use Rattle.circuit.specs.declared.net.Net.TheVariants.{Input, Gate}
+use Rattle.elaborate.specs.Elaborate.{place_of}
 use Rattle.elaborate.specs.Tabled.{Tabled}
+use Rattle.elaborate.specs.Whole.{net_lines}
+use Rattle.elaborate.proofs.NetLines.{lines_push}
 use Rattle.elaborate.proofs.Gathered.{gathered_push}
 use Rattle.elaborate.proofs.Tabled.{tabled_input, tabled_output, tabled_gate}
 use Rattle.netlist.specs.declared.tables.Tables.{Tables}
-use Rattle.netlist.specs.Resolved.{Covered, Resolves}
-use Rattle.netlist.specs.Laid.{LaysOne}
+use Rattle.netlist.specs.Resolved.{Covered}
+use Rattle.netlist.specs.Laid.{LaidIn, LaysOne}
+use Rattle.netlist.specs.Names.{name_bytes, names_of, lines_of}
+use Rattle.netlist.specs.declared.tables.Definition.{Definition}
 
 inputs_push : (ds : List Declaration) (line : ℕ) (s : Statement) → length (inputs (ds ++ record { line = line; says = s } ∷ [])) ≡ length (inputs ds) + length (input_of s)
 inputs_push ds line s =
@@ -27,39 +32,75 @@ inputs_push ds line s =
 no_names : (names : List (List ℕ)) → Covered names []
 no_names names n (i, l, e) = absurd (omega (arith, l))
 
-module _ (names : List (List ℕ)) (t u : Tables) where
-  input_said : (n : List ℕ) → vec_items u.nets ≡ vec_items t.nets ++ Input t.inputs ∷ [] → u.pins ≡ t.pins → u.inputs ≡ t.inputs + 1 → LaysOne names (input n) t true u
-  input_said n e p i = (
+-- what a statement at a line adds to the tables
+abbrev Lays : List (List ℕ) → ℕ → Statement → Tables → Tables → Type 0
+Lays names line s t u = Covered names (pins_of s) × ((ds : List Declaration) → LaidIn names ds t → LaidIn names (ds ++ record { line = line; says = s } ∷ []) u)
+
+-- a definition behind those of the declarations before it
+named : (xs ys : List Definition) (ds : List Declaration) (d : Declaration) (n : List ℕ) → names_of xs ≡ nets ds → ys ≡ xs ++ record { name = record { items = n }; line = d.line } ∷ [] → net_of d.says ≡ n ∷ [] → names_of ys ≡ nets (ds ++ d ∷ [])
+named xs ys ds d n h e f =
+    ap names_of e ∙ map_push name_bytes xs _ ∙ ap (λ (ns : List (List ℕ)). ns ++ n ∷ []) h ∙ ap (λ (ns : List (List ℕ)). nets ds ++ ns) (sym f) ∙ sym (gathered_push net_of ds d)
+
+lined : (xs ys : List Definition) (ds : List Declaration) (d : Declaration) (n : List ℕ) → lines_of xs ≡ net_lines ds → ys ≡ xs ++ record { name = record { items = n }; line = d.line } ∷ [] → net_of d.says ≡ n ∷ [] → lines_of ys ≡ net_lines (ds ++ d ∷ [])
+lined xs ys ds d n h e f =
+    ap lines_of e ∙ map_push (λ (x : Definition). x.line) xs _ ∙ ap (λ (ls : List ℕ). ls ++ d.line ∷ []) h ∙ ap (λ (ns : List (List ℕ)). net_lines ds ++ map (λ _. d.line) ns) (sym f) ∙ sym (lines_push ds d)
+
+module _ (names : List (List ℕ)) (t u : Tables) (line : ℕ) (n : List ℕ) (pushed : vec_items u.definitions ≡ vec_items t.definitions ++ record { name = record { items = n }; line = line } ∷ []) where
+  input_said : vec_items u.nets ≡ vec_items t.nets ++ Input t.inputs ∷ [] → u.pins ≡ t.pins → u.inputs ≡ t.inputs + 1 → Lays names line (input n) t u
+  input_said e p i = (
     no_names names,
-    λ ds line h.
+    λ ds h.
         let d : Declaration = record { line = line; says = input n } in
         let Q : List Net → List ℕ → Type 0 = λ ns ps. Tabled names (ds ++ d ∷ []) ns ps in
-        let laid = tabled_input names ds d (vec_items t.nets) (vec_items t.pins) h.0 n refl in
-        let table : vec_items u.nets ≡ vec_items t.nets ++ Input (length (inputs ds)) ∷ [] = e ∙ ap (λ (k : ℕ). vec_items t.nets ++ Input k ∷ []) h.1 in
-        (subst (λ (ns : List Net). Q ns (vec_items u.pins)) (sym table) (subst (Q (vec_items t.nets ++ Input (length (inputs ds)) ∷ [])) (sym (ap vec_items p)) laid), omega (arith, i, h.1, inputs_push ds line (input n))),
+        let laid = tabled_input names ds d (vec_items t.nets) (vec_items t.pins) h.tabled n refl in
+        let table : vec_items u.nets ≡ vec_items t.nets ++ Input (length (inputs ds)) ∷ [] = e ∙ ap (λ (k : ℕ). vec_items t.nets ++ Input k ∷ []) h.counted in
+        record {
+          tabled = subst (λ (ns : List Net). Q ns (vec_items u.pins)) (sym table) (subst (Q (vec_items t.nets ++ Input (length (inputs ds)) ∷ [])) (sym (ap vec_items p)) laid);
+          counted = omega (arith, i, h.counted, inputs_push ds line (input n));
+          named = named (vec_items t.definitions) (vec_items u.definitions) ds d n h.named pushed refl;
+          lined = lined (vec_items t.definitions) (vec_items u.definitions) ds d n h.lined pushed refl;
+        },
   )
 
-  pub lays_input : (s : code.Statement) (n : Name) → s ≡ statement.Input n → vec_items u.nets ≡ vec_items t.nets ++ Input t.inputs ∷ [] → u.pins ≡ t.pins → u.inputs ≡ t.inputs + 1 → LaysOne names (said s) t true u
-  lays_input s n q e p i =
-      let P : code.Statement → Type 0 = λ x. LaysOne names (said x) t true u in subst P (sym q) (input_said n.bytes.now e p i)
-
-  gate_said : (n : List ℕ) (k : Kind) (os : List (List ℕ)) (r : Bool) → Resolves names os (vec_items t.pins) r (vec_items u.pins) → MatchBool r (vec_items u.nets ≡ vec_items t.nets ++ Gate k (vec_len t.pins) (length os) ∷ []) (Unit {0}) → u.inputs ≡ t.inputs → length os ≤ 16 → LaysOne names (gate n (word k) os) t r u
-  gate_said n k os false h e i few = h
-  gate_said n k os true h e i few = (
-    h.0,
-    λ ds line g.
+  gate_said : (k : Kind) (os : List (List ℕ)) → Covered names os → vec_items u.pins ≡ vec_items t.pins ++ map (place_of names) os → vec_items u.nets ≡ vec_items t.nets ++ Gate k (vec_len t.pins) (length os) ∷ [] → u.inputs ≡ t.inputs → length os ≤ 16 → Lays names line (gate n (word k) os) t u
+  gate_said k os covered wired e i few = (
+    covered,
+    λ ds g.
         let d : Declaration = record { line = line; says = gate n (word k) os } in
         let Q : List Net → List ℕ → Type 0 = λ ns ps. Tabled names (ds ++ d ∷ []) ns ps in
-        let laid = tabled_gate names ds d (vec_items t.nets) (vec_items t.pins) g.0 n k os refl few h.0 in
+        let laid = tabled_gate names ds d (vec_items t.nets) (vec_items t.pins) g.tabled n k os refl few covered in
         let table : vec_items u.nets ≡ vec_items t.nets ++ Gate k (length (vec_items t.pins)) (length os) ∷ [] = e ∙ ap (λ (x : ℕ). vec_items t.nets ++ Gate k x (length os) ∷ []) t.pins.ok.0 in
-        (subst (λ (ns : List Net). Q ns (vec_items u.pins)) (sym table) (subst (Q (vec_items t.nets ++ Gate k (length (vec_items t.pins)) (length os) ∷ [])) (sym h.1) laid), omega (arith, i, g.1, inputs_push ds line (gate n (word k) os))),
+        record {
+          tabled = subst (λ (ns : List Net). Q ns (vec_items u.pins)) (sym table) (subst (Q (vec_items t.nets ++ Gate k (length (vec_items t.pins)) (length os) ∷ [])) (sym wired) laid);
+          counted = omega (arith, i, g.counted, inputs_push ds line (gate n (word k) os));
+          named = named (vec_items t.definitions) (vec_items u.definitions) ds d n g.named pushed refl;
+          lined = lined (vec_items t.definitions) (vec_items u.definitions) ds d n g.lined pushed refl;
+        },
   )
 
-  pub lays_gate : (s : code.Statement) (n : Name) (k : Kind) (c : Cursor) (r : Bool) → s ≡ statement.Gate n k c → Resolves names (names_left c) (vec_items t.pins) r (vec_items u.pins) → MatchBool r (vec_items u.nets ≡ vec_items t.nets ++ Gate k (vec_len t.pins) (length (names_left c)) ∷ []) (Unit {0}) → u.inputs ≡ t.inputs → length (names_left c) ≤ 16 → LaysOne names (said s) t r u
-  lays_gate s n k c r q h e i few =
-      let P : code.Statement → Type 0 = λ x. LaysOne names (said x) t r u in subst P (sym q) (gate_said n.bytes.now k (names_left c) r h e i few)
+output_said : (names : List (List ℕ)) (t : Tables) (line : ℕ) (n : List ℕ) → Lays names line (output n) t t
+output_said names t line n = (
+  no_names names,
+  λ ds h. record {
+    tabled = tabled_output names ds (record { line = line; says = output n }) (vec_items t.nets) (vec_items t.pins) h.tabled n refl;
+    counted = omega (arith, h.counted, inputs_push ds line (output n));
+    named = h.named ∙ sym (gathered_push net_of ds (record { line = line; says = output n }) ∙ append-nil (nets ds));
+    lined = h.lined ∙ sym (lines_push ds (record { line = line; says = output n }) ∙ append-nil (net_lines ds));
+  },
+)
 
-pub lays_output : (names : List (List ℕ)) (t : Tables) (s : code.Statement) (n : Name) → s ≡ statement.Output n → LaysOne names (said s) t true t
-lays_output names t s n q =
-    let P : code.Statement → Type 0 = λ x. LaysOne names (said x) t true t in
-    subst P (sym q) (no_names names, λ ds line h. (tabled_output names ds (record { line = line; says = output n.bytes.now }) (vec_items t.nets) (vec_items t.pins) h.0 n.bytes.now refl, omega (arith, h.1, inputs_push ds line (output n.bytes.now))))
+-- the same of a declaration in the text
+module _ (names : List (List ℕ)) (t u : Tables) (d : code.Declaration) (n : Name) where
+  lays : (r : Statement) → said d.says ≡ r → Lays names d.line r t u → LaysOne names d t u (Ok tt)
+  lays r e h = subst (λ x. Lays names d.line x t u) (sym e) h
+
+  pub lays_input : d.says ≡ statement.Input n → vec_items u.definitions ≡ vec_items t.definitions ++ record { name = record { items = n.bytes.now }; line = d.line } ∷ [] → vec_items u.nets ≡ vec_items t.nets ++ Input t.inputs ∷ [] → u.pins ≡ t.pins → u.inputs ≡ t.inputs + 1 → LaysOne names d t u (Ok tt)
+  lays_input q m e p i = lays (input n.bytes.now) (ap said q) (input_said names t u d.line n.bytes.now m e p i)
+
+  pub lays_gate : (k : Kind) (c : Cursor) → d.says ≡ statement.Gate n k c → vec_items u.definitions ≡ vec_items t.definitions ++ record { name = record { items = n.bytes.now }; line = d.line } ∷ [] → Covered names (names_left c) → vec_items u.pins ≡ vec_items t.pins ++ map (place_of names) (names_left c) →
+      vec_items u.nets ≡ vec_items t.nets ++ Gate k (vec_len t.pins) (length (names_left c)) ∷ [] → u.inputs ≡ t.inputs → length (pins_of (said d.says)) ≤ 16 → LaysOne names d t u (Ok tt)
+  lays_gate k c q m covered wired e i few =
+      lays (gate n.bytes.now (word k) (names_left c)) (ap said q) (gate_said names t u d.line n.bytes.now m k (names_left c) covered wired e i (subst (λ x. length (pins_of x) ≤ 16) (ap said q) few))
+
+pub lays_output : (names : List (List ℕ)) (t : Tables) (d : code.Declaration) (n : Name) → d.says ≡ statement.Output n → LaysOne names d t t (Ok tt)
+lays_output names t d n q = lays names t t d n (output n.bytes.now) (ap said q) (output_said names t d.line n.bytes.now)

@@ -1,3 +1,4 @@
+mod Accepting
 mod Resolving
 mod LayOne
 mod LayAll

@@ -1,31 +1,43 @@
 -- From what the loader finds to the refusals of the whole declarations.
-use Rattle.std.proofs.Common.{◌≡◌, ℕ, List, [], map, length, sym, ap, ◌∙◌, subst}
+use Rattle.std.proofs.Common.{◌≡◌, ℕ, List, [], map, length, Err, sym, ap, ◌∙◌, subst}
 use Rattle.std.proofs.lemmas.List.{nil_from_length, length-map}
-use Rattle.grammar.specs.Proper.{Proper}
 use Rattle.grammar.specs.Rules.{Declaration, nets, inputs, outputs, pins, pins_of, output_of}
-use Rattle.grammar.proofs.Properly.{nothing_proper, reads_proper}
-use Rattle.elaborate.specs.Whole.{RefusedWhole}
-use Rattle.elaborate.proofs.Reading.{Rising, text_lines}
+use Rattle.elaborate.specs.Whole.{RefusedWhole, Rising}
 use Rattle.elaborate.proofs.Refused.{refused_operand, refused_output}
 use Rattle.netlist.specs.Resolved.{Covered}
-use Rattle.netlist.specs.Laid.{FirstUndefined}
-use Rattle.netlist.specs.Building.{OfText}
+use Rattle.netlist.specs.Building.{ResolvesAll}
+use Rattle.netlist.specs.Laid.{FirstUndefined, LaysOut, ListsOut}
+use Rattle.netlist.specs.declared.fault.LoadFault.{LoadFault}
+use Rattle.netlist.specs.declared.fault.LoadFault.TheVariants as fault
 
-pub of_proper : (ds : List Declaration) → OfText ds → Proper ds
-of_proper ds r = reads_proper r.1 nothing_proper
+module _ (ds : List Declaration) (rising : Rising ds) where
+  operand_refused : (line : ℕ) → FirstUndefined pins_of ds line → RefusedWhole ds 10 line
+  operand_refused line f =
+      let u = f.undefined in
+      subst (RefusedWhole ds 10) f.at_line (refused_operand ds rising f.place f.here u.0 f.inside f.stands u.1 u.2 f.defined)
 
-pub of_rising : (ds : List Declaration) → OfText ds → Rising ds
-of_rising ds r = (text_lines r.1).1.rising
+  output_refused : (line : ℕ) → Covered (nets ds) (pins ds) → FirstUndefined output_of ds line → RefusedWhole ds 11 line
+  output_refused line operands f =
+      let u = f.undefined in
+      subst (RefusedWhole ds 11) f.at_line (refused_output ds operands rising f.place f.here u.0 f.inside f.stands u.1 u.2 f.defined)
 
-pub operand_refused : (ds : List Declaration) (line : ℕ) → OfText ds → FirstUndefined pins_of ds line → RefusedWhole ds 10 line
-operand_refused ds line r f =
-    let u = f.undefined in
-    subst (RefusedWhole ds 10) f.at_line (refused_operand ds (of_rising ds r) f.place f.here u.0 f.inside f.stands u.1 u.2 f.defined)
+  pub laying_refused : (e : LoadFault) → LaysOut ds (Err e) → ResolvesAll ds (Err e)
+  laying_refused fault.Memory h = tt
+  laying_refused fault.FewCells h = h
+  laying_refused (fault.Statement f) h = h
+  laying_refused (fault.UndefinedOperand line) h = operand_refused line h
+  laying_refused (fault.UndefinedOutput line) h = absurd h
+  laying_refused fault.NoPort h = absurd h
+  laying_refused (fault.Circle line) h = h
 
-pub output_refused : (ds : List Declaration) (line : ℕ) → OfText ds → Covered (nets ds) (pins ds) → FirstUndefined output_of ds line → RefusedWhole ds 11 line
-output_refused ds line r operands f =
-    let u = f.undefined in
-    subst (RefusedWhole ds 11) f.at_line (refused_output ds operands (of_rising ds r) f.place f.here u.0 f.inside f.stands u.1 u.2 f.defined)
+  pub listing_refused : Covered (nets ds) (pins ds) → (e : LoadFault) → ListsOut ds (Err e) → ResolvesAll ds (Err e)
+  listing_refused operands fault.Memory h = tt
+  listing_refused operands fault.FewCells h = h
+  listing_refused operands (fault.Statement f) h = h
+  listing_refused operands (fault.UndefinedOperand line) h = absurd h
+  listing_refused operands (fault.UndefinedOutput line) h = output_refused line operands h
+  listing_refused operands fault.NoPort h = absurd h
+  listing_refused operands (fault.Circle line) h = h
 
 pub no_inputs : (ds : List Declaration) (n : ℕ) → n ≡ 0 → n ≡ length (inputs ds) → inputs ds ≡ []
 no_inputs ds n e f = nil_from_length (inputs ds) (sym f ∙ e)

@@ -1,7 +1,9 @@
 -- Names resolved one by one.
-use Rattle.std.proofs.Common.{◌≡◌, ℕ, zero, suc, List, [], ◌∷◌, ◌++◌, map, Some, None, sym, refl, ap, ◌∙◌, subst, arith}
+use Rattle.std.proofs.Common.{◌≡◌, ℕ, zero, suc, List, [], ◌∷◌, ◌++◌, map, Option, Some, None, sym, refl, ap, ◌∙◌, subst, arith}
 use Rattle.std.proofs.lemmas.List.{append_assoc}
+use Rattle.names.specs.declared.name.Name.{Name}
 use Rattle.names.specs.Tables.{LastPlace}
+use Rattle.bench.specs.Statements.{names_in}
 use Rattle.grammar.specs.Proper.{Distinct}
 use Rattle.grammar.specs.Rules.{Among}
 use Rattle.elaborate.specs.Elaborate.{place_of}
@@ -38,3 +40,7 @@ uncovered_here ns os all n e f = subst (Uncovered ns) (sym e) (n, (0, omega arit
 pub resolved_more : (f : List ℕ → ℕ) (ps qs : List ℕ) (os all : List (List ℕ)) (n : List ℕ) (i : ℕ) → all ≡ n ∷ os → i ≡ f n → qs ≡ ps ++ i ∷ [] → qs ++ map f os ≡ ps ++ map f all
 resolved_more f ps qs os all n i e g h =
     ap (λ (xs : List ℕ). xs ++ map f os) h ∙ append_assoc ps (i ∷ []) (map f os) ∙ ap (λ (x : ℕ). ps ++ x ∷ map f os) g ∙ ap (λ (xs : List (List ℕ)). ps ++ map f xs) (sym e)
+
+pub no_names : (r : Option Name) → ((n : Name) → r ≡ Some n → ⊥) → names_in r ≡ []
+no_names None none = refl
+no_names (Some n) none = absurd (none n refl)

@@ -1,7 +1,6 @@
 -- What becomes of the declarations of a text.
 use Rattle.std.specs.Prelude.{◌≡◌, ℕ, List, [], map, Ok, Err, vec_items, Result, Vec}
 use Rattle.grammar.specs.Rules.{Declaration, nets, inputs, outputs, pins}
-use Rattle.grammar.specs.Reading.{Reads, accepted}
 use Rattle.std.specs.declared.alloc.Global.{Global}
 use Rattle.circuit.specs.Circles.{Sorted, Ordered}
 use Rattle.elaborate.specs.Elaborate.{place_of, cells_of, netlist_of}
@@ -11,10 +10,6 @@ use Rattle.netlist.specs.declared.fault.LoadFault.TheVariants as fault
 use Rattle.netlist.specs.declared.resolve.Parts.{Parts}
 use Rattle.netlist.specs.Resolved.{Covered}
 use Rattle.netlist.specs.Laid.{LaidIn}
-
--- the declarations are those of some accepted text
-abbrev pub OfText : List Declaration → Type 0
-OfText ds = (text : List ℕ) × Reads text [] accepted ds
 
 -- every name stands for a net, and there are inputs and outputs
 pub record Resolved (ds : List Declaration) (p : Parts) : Type 0 where

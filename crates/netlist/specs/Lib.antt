@@ -1,4 +1,5 @@
 pub mod Names
+pub mod Accepted
 pub mod Resolved
 pub mod Laid
 pub mod Building

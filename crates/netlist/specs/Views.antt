@@ -1,19 +1,19 @@
 -- A netlist's tables as the netlist that they stand for.
-use Rattle.std.specs.Prelude.{◌≡◌, ℕ, ◌<◌, ◌≤◌, List, [], map, length, Some, None, vec_items, Option, slice_index_or}
+use Rattle.std.specs.Prelude.{◌≡◌, ℕ, ◌<◌, ◌≤◌, List, [], length, Some, None, vec_items, Option, slice_index_or}
 use Rattle.std.specs.Borrow.{Bor}
 use Rattle.model.specs.declared.counts.Counts.{Counts}
 use Rattle.circuit.specs.Circuit as circuit
 use Rattle.circuit.specs.Tables.{cells_of}
 use Rattle.circuit.specs.declared.net.Net.{Net}
 use Rattle.netlist.specs.declared.whole.Netlist.{Netlist}
-use Rattle.netlist.specs.Names.{name_bytes}
+use Rattle.netlist.specs.Names.{names_of}
 
 abbrev pub netlist_in : Netlist → circuit.Netlist
 netlist_in n = record { inputs = n.inputs; cells = cells_of (vec_items n.nets) (vec_items n.pins); outputs = vec_items n.outputs }
 
 -- the names of the nets, net by net
 abbrev pub names_in : Netlist → List (List ℕ)
-names_in n = map name_bytes (vec_items n.names)
+names_in n = names_of (vec_items n.definitions)
 
 -- the net that each pin reads, pin by pin
 abbrev pub pins_in : Netlist → List ℕ

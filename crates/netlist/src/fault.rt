@@ -4,10 +4,10 @@ ghost use Rattle.netlist.specs.Refusing.{load_refusal};
 ghost use Rattle.netlist.specs.declared.fault.LoadFault.TheVariants.{Memory, Statement};
 
 use bench::fault::StatementFault;
-use model::refusal::{Layer, Refusal};
+use model::refusal::Refusal;
 use std::alloc::AllocError;
 
-#[derive(Clone, Copy)]
+#[derive(Clone, Copy, Debug, PartialEq, Eq)]
 pub enum LoadFault {
     Memory,
     FewCells,
@@ -16,33 +16,6 @@ pub enum LoadFault {
     UndefinedOutput(usize),
     NoPort,
     Circle(usize),
-}
-
-fn at_layer(number: u8, line: usize, layer: Layer) -> Refusal
-    ensures { result ≡ record { number = number; line = line; layer = layer } }
-{
-    Refusal {
-        number,
-        line,
-        layer,
-    }
-}
-
-impl LoadFault {
-    // The number, the line and the layer of a refusal.
-    pub fn refusal(self) -> Refusal
-        ensures { result ≡ load_refusal self }
-    {
-        match self {
-            LoadFault::Memory => at_layer(0, 0, Layer::Host),
-            LoadFault::FewCells => at_layer(1, 0, Layer::Host),
-            LoadFault::Statement(fault) => fault.refusal(),
-            LoadFault::UndefinedOperand(line) => at_layer(10, line, Layer::Netlist),
-            LoadFault::UndefinedOutput(line) => at_layer(11, line, Layer::Netlist),
-            LoadFault::NoPort => at_layer(12, 0, Layer::Netlist),
-            LoadFault::Circle(line) => at_layer(13, line, Layer::Netlist),
-        }
-    }
 }
 
 impl From<StatementFault> for LoadFault {
@@ -57,6 +30,23 @@ impl From<AllocError> for LoadFault {
     ghost from_gives = { λ _ r. r ≡ Memory };
 
     fn from(_e: AllocError) -> LoadFault {
-        LoadFault::Memory
+        LoadFault::Memory // no other fault has number 0
+    }
+}
+
+// The number, the line and the layer of a refusal.
+impl From<LoadFault> for Refusal {
+    ghost from_gives = { λ fault r. r ≡ load_refusal fault };
+
+    fn from(fault: LoadFault) -> Refusal {
+        match fault {
+            LoadFault::Memory => Refusal::new(0, 0),
+            LoadFault::FewCells => Refusal::new(1, 0),
+            LoadFault::Statement(fault) => Refusal::from(fault),
+            LoadFault::UndefinedOperand(line) => Refusal::new(10, line),
+            LoadFault::UndefinedOutput(line) => Refusal::new(11, line),
+            LoadFault::NoPort => Refusal::new(12, 0),
+            LoadFault::Circle(line) => Refusal::new(13, line),
+        }
     }
 }

@@ -1,11 +1,11 @@
 // Netlists that own their tables, and the loader that makes them from .bench text.
 #![tactic(auto)]
 
+mod accepted;
 mod arrange;
 pub mod fault;
+pub mod limits;
 mod load;
-pub mod name;
-mod naming;
 mod resolve;
 mod tables;
 pub mod whole;

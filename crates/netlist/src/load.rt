@@ -1,34 +1,25 @@
 // From .bench text to a netlist.
 ghost use Rattle.std.specs.Prelude.{◌≤◌, length};
-ghost use Rattle.bench.specs.SoFar.{declared};
-ghost use Rattle.netlist.specs.Building.{OfText};
+ghost use Rattle.netlist.specs.Accepted.{declared_in};
 ghost use Rattle.netlist.specs.Loading.{Builds, Loads, Makes};
 
+use crate::accepted::Accepted;
 use crate::arrange::find_order;
 use crate::fault::LoadFault;
-use crate::naming::copy_names;
-use crate::resolve::{Parts, resolve};
-use crate::tables::Tables;
+use crate::limits::{CELLS, LINKS};
+use crate::resolve::resolve;
 use crate::whole::Netlist;
 use bench::declarations::Declarations;
 use std::alloc::Global;
 
 // The netlist that the declarations of a text stand for.
-fn build(
-    heap: Global,
-    declarations: &Declarations<'_>,
-    cells: &mut [u16],
-) -> Result<Netlist, LoadFault>
-    requires text { OfText (declared declarations.now) }
-    requires room { 2048 ≤ length cells.old }
-    ensures { Builds (declared declarations.now) result }
+fn build(heap: Global, text: Accepted<'_, '_>, cells: &mut [u16]) -> Result<Netlist, LoadFault>
+    requires { 2048 ≤ length cells.old }
+    ensures { Builds (declared_in text.entry) result }
 {
-    let parts = resolve(heap, declarations)?;
-    let order = find_order(heap, declarations, &parts, cells)?;
-    let names = copy_names(heap, declarations)?;
-    let Parts { tables, outputs } = parts;
-    let Tables { nets, pins, inputs } = tables;
-    Ok(Netlist::of(names, nets, pins, inputs, outputs, order))
+    let parts = resolve(heap, text)?;
+    let order = find_order(heap, text, &parts, cells)?;
+    Ok(Netlist::of(parts, order))
 }
 
 // The netlist that a text declares.
@@ -40,16 +31,20 @@ fn make(
 ) -> Result<Netlist, LoadFault>
     ensures { Makes text.now (length cells.old) (length links.old) result }
 {
-    if cells.len() < 2048 || links.len() < 20480 {
+    if cells.len() < CELLS || links.len() < LINKS {
         return Err(LoadFault::FewCells);
     }
     let mut declarations = Declarations::new(heap)?;
     declarations.read(text)?;
-    build(heap, &declarations, cells)
+    let accepted = Accepted {
+        declarations: &declarations,
+    };
+    build(heap, accepted, cells)
 }
 
 impl Netlist {
-    // Reads a text and holds the netlist that it declares; after a refusal it is the empty netlist.
+    // Reads a text and holds the netlist that it declares; after a refusal it is the empty netlist. The host lends cells and
+    // links apart, and refusal 1 counts them apart.
     pub fn load(
         &mut self,
         heap: Global,
@@ -59,15 +54,8 @@ impl Netlist {
     ) -> Result<(), LoadFault>
         ensures { Loads text.now (length cells.old) (length links.old) result self.new }
     {
-        match make(heap, text, cells, links) {
-            Ok(netlist) => {
-                *self = netlist;
-                Ok(())
-            }
-            Err(fault) => {
-                *self = Netlist::empty(heap);
-                Err(fault)
-            }
-        }
+        *self = Netlist::empty(heap);
+        *self = make(heap, text, cells, links)?;
+        Ok(())
     }
 }

@@ -4,71 +4,73 @@
 
 #[cfg(test)]
 mod tests {
+    use model::refusal::Refusal;
     use netlist::fault::LoadFault;
+    use netlist::limits::{CELLS, LINKS};
     use netlist::whole::Netlist;
     use std::alloc::{AllocError, Global};
     use std::process::Abort;
     use std::test::Fail;
 
-    // The refusal's number and line; 99 and the number of pins for an accepted text.
-    fn outcome(heap: Global, text: &[u8]) -> Result<(u8, usize), AllocError> {
-        let mut cells = vec![in heap; 0u16; 2048]?;
-        let mut links = vec![in heap; 0u16; 20480]?;
+    // How many pins the netlist of a text has, or what the text is refused for.
+    fn outcome(heap: Global, text: &[u8]) -> Result<Result<usize, LoadFault>, AllocError> {
+        let mut cells = vec![in heap; 0u16; CELLS]?;
+        let mut links = vec![in heap; 0u16; LINKS]?;
         let mut netlist = Netlist::empty(heap);
-        match netlist.load(heap, text, cells.as_mut_slice(), links.as_mut_slice()) {
-            Ok(()) => Ok((99, netlist.counts().pins)),
-            Err(fault) => {
-                let refusal = fault.refusal();
-                Ok((refusal.number, refusal.line))
-            }
-        }
+        let answer = netlist.load(heap, text, cells.as_mut_slice(), links.as_mut_slice());
+        Ok(answer.map(|()| netlist.counts().pins))
     }
 
-    fn compare(
+    fn accepts(rt: &impl Abort, heap: Global, text: &[u8], pins: usize) -> Result<(), Fail> {
+        assert_eq!(rt; outcome(heap, text)?, Ok(pins));
+        Ok(())
+    }
+
+    fn refuses(
         rt: &impl Abort,
         heap: Global,
         text: &[u8],
         number: u8,
         line: usize,
     ) -> Result<(), Fail> {
-        let (found, at) = outcome(heap, text)?;
-        assert_eq!(rt; found, number);
-        assert_eq!(rt; at, line);
+        let fault = outcome(heap, text)?.err().ok_or("loaded")?;
+        let refusal = Refusal::from(fault);
+        assert_eq!(rt; refusal.number, number);
+        assert_eq!(rt; refusal.line, line);
         Ok(())
     }
 
     #[test]
     fn undefined_names(rt: HostRuntime) -> Result<(), Fail> {
         let heap = rt.alloc();
-        compare(&rt, heap, b"INPUT(a)\nOUTPUT(y)\ny = NOT(a)\n", 99, 1)?;
-        compare(
+        accepts(&rt, heap, b"INPUT(a)\nOUTPUT(y)\ny = NOT(a)\n", 1)?;
+        accepts(
             &rt,
             heap,
             b"OUTPUT(y)\ny = NOT(p)\np = BUFF(a)\nINPUT(a)",
-            99,
             2,
         )?;
-        compare(&rt, heap, b"INPUT(a)\nOUTPUT(z)\ny = NOT(b)\n", 10, 3)?;
-        compare(&rt, heap, b"INPUT(a)\nOUTPUT(z)\ny = NOT(a)\n", 11, 2)?;
-        compare(&rt, heap, b"OUTPUT(y)\ny = NOT(b)\nOUTPUT(z)\n", 10, 2)
+        refuses(&rt, heap, b"INPUT(a)\nOUTPUT(z)\ny = NOT(b)\n", 10, 3)?;
+        refuses(&rt, heap, b"INPUT(a)\nOUTPUT(z)\ny = NOT(a)\n", 11, 2)?;
+        refuses(&rt, heap, b"OUTPUT(y)\ny = NOT(b)\nOUTPUT(z)\n", 10, 2)
     }
 
     #[test]
     fn ports_and_lower_layers(rt: HostRuntime) -> Result<(), Fail> {
         let heap = rt.alloc();
-        compare(&rt, heap, b"", 12, 0)?;
-        compare(&rt, heap, b"INPUT(a)\n", 12, 0)?;
-        compare(&rt, heap, b"OUTPUT(y)\ny = BUFF(y)\n", 12, 0)?;
-        compare(&rt, heap, b"INPUT(a)\nOUTPUT(z)\nfoo\n", 3, 3)?;
-        compare(&rt, heap, b"INPUT(a)\nINPUT(a)\nOUTPUT(z)\n", 7, 2)
+        refuses(&rt, heap, b"", 12, 0)?;
+        refuses(&rt, heap, b"INPUT(a)\n", 12, 0)?;
+        refuses(&rt, heap, b"OUTPUT(y)\ny = BUFF(y)\n", 12, 0)?;
+        refuses(&rt, heap, b"INPUT(a)\nOUTPUT(z)\nfoo\n", 3, 3)?;
+        refuses(&rt, heap, b"INPUT(a)\nINPUT(a)\nOUTPUT(z)\n", 7, 2)
     }
 
     #[test]
     fn circles(rt: HostRuntime) -> Result<(), Fail> {
         let heap = rt.alloc();
-        compare(&rt, heap, b"INPUT(a)\nOUTPUT(y)\ny = AND(a, y)\n", 13, 3)?;
+        refuses(&rt, heap, b"INPUT(a)\nOUTPUT(y)\ny = AND(a, y)\n", 13, 3)?;
         // y only reads the circle of p and q, and stands above it
-        compare(
+        refuses(
             &rt,
             heap,
             b"INPUT(a)\nOUTPUT(y)\ny = NOT(p)\np = AND(a, q)\nq = BUFF(p)\n",
@@ -76,7 +78,7 @@ mod tests {
             3,
         )?;
         // no output sees this circle
-        compare(
+        refuses(
             &rt,
             heap,
             b"INPUT(a)\nOUTPUT(y)\ny = NOT(a)\np = AND(a, q)\nq = BUFF(p)\n",
@@ -91,11 +93,9 @@ mod tests {
         let mut cells = vec![in heap; 0u16; 2047]?;
         let mut links = vec![in heap; 0u16; 20480]?;
         let mut netlist = Netlist::empty(heap);
-        let refused = match netlist.load(heap, b"foo", cells.as_mut_slice(), links.as_mut_slice()) {
-            Ok(()) => LoadFault::Memory,
-            Err(fault) => fault,
-        };
-        assert_eq!(rt; refused.refusal().number, 1);
+        let answer = netlist.load(heap, b"foo", cells.as_mut_slice(), links.as_mut_slice());
+        assert_eq!(rt; answer, Err(LoadFault::FewCells));
+        assert_eq!(rt; Refusal::from(LoadFault::FewCells).number, 1);
         assert_eq!(rt; netlist.counts().nets, 0);
         Ok(())
     }

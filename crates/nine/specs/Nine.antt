@@ -1,5 +1,5 @@
 -- Muth's nine values: the good and the faulty circuit follow three-valued logic, each on its own.
-use Rattle.std.specs.Prelude.{ℕ, zero, suc, ◌+◌, ◌*◌, ◌/◌, ◌%◌, ◌<◌, Bool, ◌&&◌}
+use Rattle.std.specs.Prelude.{ℕ, ◌+◌, ◌*◌, ◌/◌, ◌%◌, ◌<◌, Bool, ◌&&◌}
 use Rattle.std.proofs.Common.{lit<}
 use Rattle.model.specs.Bits.{bit}
 use Rattle.model.specs.Pairs.{Pairs}
@@ -11,6 +11,8 @@ use Rattle.model.specs.OneLane.{one_lane, one_lane_words, one_lane_search}
 use Rattle.nine.specs.declared.three.Three.{Three}
 use Rattle.nine.specs.declared.three.Three.TheVariants.{Zero, One, X}
 use Rattle.nine.specs.declared.Nine.{Nine}
+use Rattle.nine.specs.declared.table.Operation.{Operation}
+use Rattle.nine.specs.declared.table.Operation.TheVariants.{And, Or, Xor}
 use Rattle.nine.specs.Three.{digit, three, may, known, not3, and3, or3, xor3}
 
 abbrev pub number : Three → Three → ℕ
@@ -47,15 +49,11 @@ nine_constant b = value (known b) (known b)
 abbrev pub sides : (Three → Three → Three) → Nine → Nine → Nine
 sides h u v = value (h (good_of u.number) (good_of v.number)) (h (faulty_of u.number) (faulty_of v.number))
 
--- the operations in the order of the table: and, or, xor
-abbrev pub gate3 : ℕ → Three → Three → Three
-gate3 zero = and3
-gate3 (suc zero) = or3
-gate3 (suc (suc k)) = xor3
-
--- what stands in the table for operation k at the numbers x and y
-abbrev pub entry_of : ℕ → ℕ → ℕ → ℕ
-entry_of k x y = number (gate3 k (good_of x) (good_of y)) (gate3 k (faulty_of x) (faulty_of y))
+-- each operation of the table on one side
+abbrev pub gate3 : Operation → Three → Three → Three
+gate3 And = and3
+gate3 Or = or3
+gate3 Xor = xor3
 
 abbrev pub nine_meaning : Meaning Nine
 nine_meaning = one_lane nine_pairs

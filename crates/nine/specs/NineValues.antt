@@ -1,4 +1,4 @@
--- The nine values by their numbers, and tests at all of them: what the proofs of the laws in src/logic.rt run. No contract
+-- The nine values by their numbers, and tests at all of them: what the proofs of the laws in src/lib.rt run. No contract
 -- cites them.
 use Rattle.std.specs.Prelude.{◌≡◌, ℕ, zero, suc, ◌/◌, ◌%◌, ◌<◌, Bool, true, ◌&&◌, refl}
 use Rattle.std.proofs.Common.{sym, ap, ◌∙◌, not-suc-le-zero, le_of_suc-le-suc, arith}

@@ -1,14 +1,18 @@
 // The table of the nine values.
-ghost use Rattle.std.specs.Prelude.{◌≡◌, ◌<◌};
-ghost use Rattle.nine.specs.Nine.{entry_of};
+ghost use Rattle.std.specs.Prelude.{◌≡◌};
+ghost use Rattle.nine.specs.Nine.{sides, gate3};
 
-pub(super) const AND: usize = 0;
+use crate::Nine;
 
-pub(super) const OR: usize = 1;
+// In the order of the table.
+#[derive(Clone, Copy)]
+pub(super) enum Operation {
+    And,
+    Or,
+    Xor,
+}
 
-pub(super) const XOR: usize = 2;
-
-// What operation k gives of the numbers x and y, at 81k + 9x + y.
+// What operation k gives of the values with the numbers x and y, at 81k + 9x + y.
 const TABLE: [u8; 243] = [
     // and
     0, 0, 0, 0, 0, 0, 0, 0, 0, 0, 1, 2, 0, 1, 2, 0, 1, 2, 0, 2, 2, 0, 2, 2, 0, 2, 2, 0, 0, 0, 3, 3,
@@ -24,9 +28,9 @@ const TABLE: [u8; 243] = [
     6, 8, 7, 6, 8, 7, 6, 8, 8, 8, 8, 8, 8, 8, 8, 8, 8,
 ];
 
-pub(super) fn entry(k: usize, x: u8, y: u8) -> u8
-    requires { (k < 3) × ((x < 9) × (y < 9)) }
-    ensures ruled { result ≡ entry_of k x y }
+pub(super) fn entry(operation: Operation, x: Nine, y: Nine) -> Nine
+    ensures ruled { result ≡ sides (gate3 operation) x y }
 {
-    TABLE[81 * k + 9 * x as usize + y as usize]
+    let at = 81 * operation as usize + 9 * usize::from(x.number) + usize::from(y.number);
+    Nine { number: TABLE[at] }
 }

@@ -1,6 +1,6 @@
 -- A push onto the path, which is never full.
 use Rattle.std.proofs.Common.{◌≡◌, ◌<◌, true, [], ◌∷◌, ◌++◌, length, is_ok, Ok, Err, Result, refl, arith}
-use Rattle.cells.specs.declared.stack.Full.{Full}
+use Rattle.model.specs.declared.full.Full.{Full}
 use Rattle.cells.specs.declared.stack.Stack.{Stack}
 use Rattle.cells.specs.Stacks.{held, room, Pushed}
 

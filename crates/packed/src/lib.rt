@@ -7,10 +7,9 @@ ghost use Rattle.packed.specs.PackedAlgebraLemmas.{packed_operation_laws, packed
 ghost use Rattle.std.proofs.Common.{rules};
 
 use signal::Algebra;
-use signal::lanes::Lanes;
 
 // Bit i of each word is what the good and the faulty circuit carry in lane i.
-#[derive(Clone, Copy)]
+#[derive(Clone, Copy, Debug, PartialEq, Eq)]
 pub struct Packed {
     good: u64,
     faulty: u64,
@@ -25,9 +24,9 @@ impl Packed {
 }
 
 impl Algebra for Packed {
-    type Width = Lanes<64>;
+    const LANES: u32 = 64;
 
-    const LANES: Lanes<64> = Lanes::<64>::ALL;
+    ghost LANES = { 64 };
 
     ghost meaning = { packed_meaning };
 

@@ -1,2 +1,2 @@
-mod Digits
+mod Joined
 pub mod Rest

@@ -4,7 +4,4 @@
 
 mod line;
 pub mod lines;
-mod number;
-mod piece;
 pub mod short;
-mod text;

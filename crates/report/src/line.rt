@@ -1,36 +1,33 @@
-// Pieces one behind the other.
-ghost use Rattle.std.specs.Prelude.{◌≡◌, length, nat_le};
+// Pieces of text one behind the other.
+ghost use Rattle.std.specs.Prelude.{◌≡◌, ◌<◌, ◌≤◌, ◌^◌, ◌++◌, length, drop, sum_by};
 ghost use Rattle.report.specs.Outcome.{Written};
-ghost use Rattle.report.specs.Pieces.{all_bytes};
+ghost use Rattle.report.specs.Pieces.{joined};
 
-use crate::piece::{Piece, piece_len, put};
 use crate::short::ShortBuffer;
 
-// Whether a room of so many bytes is enough for the pieces.
-fn fits(pieces: &[Piece<'_>], room: usize) -> bool
-    ensures { result ≡ nat_le (length (all_bytes pieces.now)) room }
+// Writes the pieces at the start of a buffer that has room for them, each into the part of it that is still free.
+// Not by `write!`: no clause says when that answers an error, and not in a loop: there it is unknown what the whole buffer ends as.
+fn put(out: &mut [u8], pieces: &[&str])
+    requires { length (joined pieces.now) ≤ length out.old }
+    ensures { out.new ≡ joined pieces.now ++ drop (length (joined pieces.now)) out.old }
 {
-    let mut left = room;
-    for piece in pieces {
-        let len = piece_len(*piece);
-        if left < len {
-            return false;
-        }
-        left -= len;
+    if let [piece, others @ ..] = pieces {
+        let (front, free) = out.split_at_mut(piece.len());
+        front.copy_from_slice(piece.as_bytes());
+        put(free, others);
     }
-    true
 }
 
 // Writes the pieces at the start of a buffer, or nothing where it is too short.
-pub(crate) fn write(out: &mut [u8], pieces: &[Piece<'_>]) -> Result<usize, ShortBuffer>
-    ensures { Written (all_bytes pieces.now) out.old result out.new }
+#[tactic(auto, using(crate::proofs::Joined::joined_length))]
+pub(crate) fn write(out: &mut [u8], pieces: &[&str]) -> Result<usize, ShortBuffer>
+    requires { sum_by (λ piece. length piece.now) pieces.now < 2 ^ 64 }
+    ensures { Written (joined pieces.now) out.old result out.new }
 {
-    if !fits(pieces, out.len()) {
+    let length = pieces.iter().map(|piece| piece.len()).sum();
+    if out.len() < length {
         return Err(ShortBuffer);
     }
-    let mut at = 0;
-    for piece in pieces {
-        at += put(&mut out[at..], *piece);
-    }
-    Ok(at)
+    put(out, pieces);
+    Ok(length)
 }

@@ -4,35 +4,38 @@ ghost use Rattle.report.specs.Lines.{layer_word_of, refusal_line_of, counts_line
 ghost use Rattle.report.specs.Outcome.{Written};
 
 use crate::line::write;
-use crate::piece::Piece;
 use crate::short::ShortBuffer;
+use itoa::Buffer;
 use model::counts::Counts;
 use model::refusal::{Layer, Refusal};
 
-fn layer_word(layer: Layer) -> &'static [u8]
+// A piece of a line, and so a text and no `Display`.
+fn layer_word(layer: Layer) -> &'static str
     ensures { result.now ≡ layer_word_of layer }
 {
     match layer {
-        Layer::Host => b"host",
-        Layer::Text => b"text",
-        Layer::Statement => b"statement",
-        Layer::Netlist => b"netlist",
+        Layer::Host => "host",
+        Layer::Text => "text",
+        Layer::Statement => "statement",
+        Layer::Netlist => "netlist",
     }
 }
 
 pub fn refusal_line(out: &mut [u8], refusal: Refusal) -> Result<usize, ShortBuffer>
     ensures { Written (refusal_line_of refusal) out.old result out.new }
 {
+    let mut number = Buffer::new();
+    let mut line = Buffer::new();
     write(
         out,
         &[
-            Piece::Text(b"refused "),
-            Piece::Number(refusal.number as usize),
-            Piece::Text(b" line "),
-            Piece::Number(refusal.line),
-            Piece::Text(b" "),
-            Piece::Text(layer_word(refusal.layer)),
-            Piece::Text(b"\n"),
+            "refused ",
+            number.format(refusal.number),
+            " line ",
+            line.format(refusal.line),
+            " ",
+            layer_word(refusal.layer),
+            "\n",
         ],
     )
 }
@@ -40,18 +43,22 @@ pub fn refusal_line(out: &mut [u8], refusal: Refusal) -> Result<usize, ShortBuff
 pub fn counts_line(out: &mut [u8], counts: Counts) -> Result<usize, ShortBuffer>
     ensures { Written (counts_line_of counts) out.old result out.new }
 {
+    let mut nets = Buffer::new();
+    let mut inputs = Buffer::new();
+    let mut outputs = Buffer::new();
+    let mut pins = Buffer::new();
     write(
         out,
         &[
-            Piece::Text(b"nets "),
-            Piece::Number(counts.nets),
-            Piece::Text(b" inputs "),
-            Piece::Number(counts.inputs),
-            Piece::Text(b" outputs "),
-            Piece::Number(counts.outputs),
-            Piece::Text(b" pins "),
-            Piece::Number(counts.pins),
-            Piece::Text(b"\n"),
+            "nets ",
+            nets.format(counts.nets),
+            " inputs ",
+            inputs.format(counts.inputs),
+            " outputs ",
+            outputs.format(counts.outputs),
+            " pins ",
+            pins.format(counts.pins),
+            "\n",
         ],
     )
 }

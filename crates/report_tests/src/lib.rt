@@ -6,6 +6,7 @@ mod tests {
     use model::counts::Counts;
     use model::refusal::{Layer, Refusal};
     use report::lines::{counts_line, refusal_line};
+    use report::short::ShortBuffer;
 
     #[test]
     fn refusal_and_the_bytes_behind(rt: HostRuntime) {
@@ -15,7 +16,7 @@ mod tests {
             line: 3,
             layer: Layer::Statement,
         };
-        assert_eq!(rt; refusal_line(&mut out, refusal).ok(), Some(28));
+        assert_eq!(rt; refusal_line(&mut out, refusal), Ok(28));
         assert!(rt; &out[..] == b"refused 10 line 3 statement\n..".as_slice());
     }
 
@@ -28,7 +29,7 @@ mod tests {
             outputs: 9,
             pins: 65536,
         };
-        assert_eq!(rt; counts_line(&mut out, counts).ok(), Some(46));
+        assert_eq!(rt; counts_line(&mut out, counts), Ok(46));
         assert!(rt; &out[..] == b"nets 4294967295 inputs 0 outputs 9 pins 65536\n".as_slice());
     }
 
@@ -40,7 +41,17 @@ mod tests {
             line: 0,
             layer: Layer::Host,
         };
-        assert!(rt; refusal_line(&mut out, refusal).is_err());
+        assert_eq!(rt; refusal_line(&mut out, refusal), Err(ShortBuffer));
         assert!(rt; &out[..] == b"......................".as_slice());
+    }
+
+    #[test]
+    fn a_short_buffer_is_refused_by_the_host(rt: HostRuntime) {
+        let refusal = Refusal {
+            number: 1,
+            line: 0,
+            layer: Layer::Host,
+        };
+        assert_eq!(rt; Refusal::from(ShortBuffer), refusal);
     }
 }

@@ -2,7 +2,7 @@
 // Evaluation and search are written once over these interfaces and rest on the laws alone.
 #![tactic(auto)]
 
-ghost use Rattle.std.specs.Prelude.{◌≡◌};
+ghost use Rattle.std.specs.Prelude.{◌≡◌, ℕ};
 ghost use Rattle.model.specs.Operations.{Ops};
 ghost use Rattle.model.specs.Meaning.{Meaning};
 ghost use Rattle.model.specs.OperationLaws.{OperationLaws};
@@ -10,15 +10,12 @@ ghost use Rattle.model.specs.WordLaws.{Words, WordLaws};
 ghost use Rattle.model.specs.SearchLaws.{Search, SearchLaws};
 ghost use Rattle.model.specs.ShutOut.{ShutsOutUnknownAnd, ShutsOutNeverDiffers};
 
-pub mod lanes;
-
-use lanes::Count;
-
 pub trait Algebra: Copy {
-    type Width: Count;
-
     // The number of lanes, from 1 to 64.
-    const LANES: Self::Width;
+    const LANES: u32;
+
+    // The same number, for clauses.
+    ghost LANES: { ℕ };
 
     ghost meaning: { Meaning Self };
 
@@ -55,7 +52,7 @@ pub trait Algebra: Copy {
         ensures ones { result ≡ words.good self };
 
     // The laws, which each impl proves; as such they stand below the last function.
-    ghost lanes: { meaning.lanes ≡ Self.Width.Count.amount };
+    ghost lanes: { meaning.lanes ≡ LANES };
 
     ghost operations: { OperationLaws meaning ops };
 
@@ -81,6 +78,7 @@ pub trait SearchAlgebra: Algebra {
 
 // What the laws shut out, whatever the values are: an `and` that is always unknown, and a `may_differ` that always
 // says no.
+#[tactic(auto, using(model::proofs::ShutOut::unknown_and, model::proofs::ShutOut::never_differs))]
 pub fn shuts_out_empty_answers<V>()
     ensures no_unknown_and { ShutsOutUnknownAnd V }
     ensures no_blind_may_differ { ShutsOutNeverDiffers V }

@@ -5,7 +5,6 @@ ghost use Rattle.std.specs.Prelude.{◌≡◌, ◌-◌, ◌^◌};
 
 use pair::Pair;
 use signal::Algebra;
-use signal::lanes::Count;
 
 pub mod pair;
 
@@ -13,7 +12,7 @@ pub mod pair;
 pub fn lane_mask<A: Algebra>() -> u64
     ensures mask { result ≡ 2 ^ A.meaning.lanes - 1 }
 {
-    u64::MAX >> (64 - A::LANES.get())
+    u64::MAX >> (64 - A::LANES)
 }
 
 pub fn pair_mask() -> u64

@@ -1,4 +1,5 @@
 // An algebra of one decided lane, written outside the crate of the interface.
+// A type of its own beside `Packed`, since the test is that another crate can write an algebra by itself.
 ghost use Rattle.signal_tests.specs.Pair.{pair_meaning, pair_ops, pair_words, pair, one_pair};
 ghost use Rattle.std.specs.Prelude.{refl};
 ghost use Rattle.model.proofs.OneLane.{operation_laws, word_laws};
@@ -6,18 +7,17 @@ ghost use Rattle.signal_tests.specs.PairAlgebraLemmas.{finite};
 ghost use Rattle.std.proofs.Common.{rules};
 
 use signal::Algebra;
-use signal::lanes::Lanes;
 
-#[derive(Clone, Copy)]
+#[derive(Clone, Copy, Debug, PartialEq, Eq)]
 pub struct Pair {
     good: bool,
     faulty: bool,
 }
 
 impl Algebra for Pair {
-    type Width = Lanes<1>;
+    const LANES: u32 = 1;
 
-    const LANES: Lanes<1> = Lanes::<1>::ONE;
+    ghost LANES = { 1 };
 
     ghost meaning = { pair_meaning };
 

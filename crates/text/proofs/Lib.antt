@@ -1,3 +1,6 @@
 mod Steps
-mod Ends
+mod Found
+pub mod Handed
+mod Lines
 mod Told
+pub mod Trims

@@ -5,6 +5,7 @@ use Rattle.names.specs.Places.{Stands}
 use Rattle.grammar.specs.Grammar.{name, sign}
 use Rattle.grammar.specs.Scan.{scan, paired, names}
 use Rattle.text.specs.declared.cursor.Cursor.{Cursor}
+use Rattle.text.specs.declared.cursor.Names.{Names}
 use Rattle.text.specs.declared.cursor.Token.{Token}
 use Rattle.text.specs.declared.cursor.Token.TheVariants as token
 
@@ -16,14 +17,21 @@ rest c = drop c.at c.text.now
 abbrev pub names_left : Cursor → List (List ℕ)
 names_left c = names (scan (rest c))
 
+abbrev pub names_of : Names → List (List ℕ)
+names_of s = names_left s.0
+
 abbrev pub Further : Cursor → Cursor → Type 0
 Further c d = (d.text ≡ c.text) × (c.at < d.at) × (d.at ≤ length c.text.now)
 
--- one token read: which one it is, where it stands, and what is left
-abbrev pub Gives : Cursor → Token → Cursor → Type 0
-Gives c token.End d = (scan (rest c) ≡ []) × (d ≡ c)
-Gives c (token.Sign s) d = (scan (rest c) ≡ sign s ∷ scan (rest d)) × Further c d
-Gives c (token.Name n) d = (scan (rest c) ≡ name n.bytes.now ∷ scan (rest d)) × Further c d × Stands c.text.now n
+-- one token read: which one it is, where it stands, and what is left; or none is left, and nothing moves
+abbrev pub Gives : Cursor → Option Token → Cursor → Type 0
+Gives c None d = (scan (rest c) ≡ []) × (d ≡ c)
+Gives c (Some (token.Sign s)) d = (scan (rest c) ≡ sign s ∷ scan (rest d)) × Further c d
+Gives c (Some (token.Name n)) d = (scan (rest c) ≡ name n.bytes.now ∷ scan (rest d)) × Further c d × Stands c.text.now n
+
+abbrev pub name_in : Token → Option Name
+name_in (token.Sign s) = None
+name_in (token.Name n) = Some n
 
 -- a name and the sign behind it, where these stand next
 abbrev pub GivesPair : Cursor → Option (Name × ℕ) → Cursor → Type 0
@@ -34,3 +42,7 @@ GivesPair c (Some r) d = (scan (rest c) ≡ name r.0.bytes.now ∷ (sign r.1 ∷
 abbrev pub GivesName : Cursor → Option Name → Cursor → Type 0
 GivesName c None d = (names_left c ≡ []) × (names_left d ≡ []) × (d.text ≡ c.text)
 GivesName c (Some n) d = (names_left c ≡ n.bytes.now ∷ names_left d) × Further c d × Stands c.text.now n
+
+-- the same of the names that are left, each at its place of the text
+abbrev pub GivesNextName : Names → Option Name → Names → Type 0
+GivesNextName s r t = GivesName s.0 r t.0

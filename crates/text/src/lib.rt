@@ -3,6 +3,7 @@
 #![tactic(auto)]
 
 pub mod cursor;
+mod ends;
 pub mod fault;
 pub mod reader;
 pub mod shape;

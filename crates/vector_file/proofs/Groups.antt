@@ -1,10 +1,6 @@
 -- The bytes of a number, one group at a time.
-use Rattle.std.proofs.Common.{◌≡◌, ℕ, zero, suc, ◌+◌, ◌-◌, ◌/◌, ◌%◌, ◌^◌, ◌<◌, ◌≤◌, List, [], ◌∷◌, ◌++◌, length, take, drop, set, sym, refl, ap, ◌∙◌, ⊎_elim, arith, le-ltb, lt-ltb}
-use borrow.Rule.Slice.PartMut.{put_mid}
-use Rattle.std.proofs.lemmas.List.{drop-set, length-set}
+use Rattle.std.proofs.Common.{◌≡◌, ℕ, zero, suc, ◌+◌, ◌/◌, ◌%◌, ◌^◌, ◌<◌, ◌≤◌, [], ◌∷◌, length, sym, refl, ap, ◌∙◌, ⊎_elim, arith, le-ltb, lt-ltb}
 use Rattle.std.proofs.lemmas.Bool.{cases_lt}
-use Rattle.report.specs.Outcome.{Placed}
-use Rattle.report.proofs.Rest.{placed_next}
 use Rattle.vector_file.specs.Numbers.{groups, number_bytes}
 
 groups_small : (k n : ℕ) → n < 128 → groups k n ≡ n ∷ []
@@ -38,6 +34,9 @@ length-small n h = ap length (bytes_small n h)
 pub length_more : (n : ℕ) → 128 ≤ n → length (number_bytes n) ≡ 1 + length (number_bytes (n / 128))
 length_more n h = ap length (bytes_more n h) ∙ omega arith
 
+pub some_byte : (n : ℕ) → 0 < length (number_bytes n)
+some_byte n = ⊎_elim (λ s. omega (arith, length-small n s)) (λ l. omega (arith, length_more n l)) (cases_lt n 128)
+
 length-below : (k n : ℕ) → n < 128 ^ suc k → length (number_bytes n) ≤ suc k
 length-below zero n h = omega (arith, length-small n h)
 length-below (suc k) n h =
@@ -47,14 +46,5 @@ length-below (suc k) n h =
     (cases_lt n 128)
 
 -- a word has at most ten groups
-pub length-word : (n : ℕ) → n < 2 ^ 64 → length (number_bytes n) ≤ 10
-length-word n h = length-below 9 n (omega arith)
-
-pub last_group : (n : ℕ) (xs : List ℕ) → n < 128 → 0 < length xs → Placed (number_bytes n) xs 1 (set xs 0 n)
-last_group n xs h l = (sym (length-small n h), drop-set xs 0 n l ∙ ap (λ ds. ds ++ drop 1 xs) (sym (bytes_small n h)))
-
-pub first_group : (n k : ℕ) (xs inner : List ℕ) → 128 ≤ n → 0 < length xs → (let ys = set xs 0 (n % 128 + 128) in Placed (number_bytes (n / 128)) (take (length ys - 1) (drop 1 ys)) k inner → Placed (number_bytes n) xs (1 + k) (put_mid 1 (length ys - 1) ys inner))
-first_group n k xs inner h l p =
-    let b = n % 128 + 128 in
-    let q = placed_next (b ∷ []) (number_bytes (n / 128)) xs (set xs 0 b) inner 1 k (omega (arith, length-set xs 0 b)) (refl, drop-set xs 0 b l) p in
-    (q.0 ∙ sym (ap length (bytes_more n h)), q.1 ∙ ap (λ ds. ds ++ drop (1 + k) xs) (sym (bytes_more n h)))
+pub word_length : (n : ℕ) → n < 2 ^ 64 → length (number_bytes n) ≤ 10
+word_length n h = length-below 9 n (omega arith)

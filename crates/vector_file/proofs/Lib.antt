@@ -1,6 +1,4 @@
 mod Groups
-mod Joins
 mod Places
-mod Rooms
-mod Splits
 mod Readable
+mod Splits

@@ -5,7 +5,7 @@ use Rattle.std.proofs.lemmas.Bool.{cases_lt}
 use Rattle.vector_file.specs.declared.entry.Entry.{Entry}
 use Rattle.vector_file.specs.Numbers.{number_bytes, numbers_bytes}
 use Rattle.vector_file.specs.Files.{entry_numbers_of, file_numbers, file_bytes, EqualFilesEqualDecks}
-use Rattle.vector_file.proofs.Groups.{bytes_small, bytes_more, length-small, length_more}
+use Rattle.vector_file.proofs.Groups.{bytes_small, bytes_more, some_byte}
 
 first : {x y : ℕ} {xs ys : List ℕ} → x ∷ xs ≡ y ∷ ys → x ≡ y
 first e = ap (λ zs. get_or zs 0 0) e
@@ -45,9 +45,6 @@ same_number (suc k) a b xs ys h e =
     (λ s. ⊎_elim (both_small a b xs ys e s) (small_large a b xs ys e s) (cases_lt b 128))
     (λ l. ⊎_elim (large_small a b xs ys e l) (λ m. both_large a b xs ys e l m (same_number k (a / 128) (b / 128) xs ys (omega arith))) (cases_lt b 128))
     (cases_lt a 128)
-
-some_byte : (n : ℕ) → 0 < length (number_bytes n)
-some_byte n = ⊎_elim (λ s. omega (arith, length-small n s)) (λ l. omega (arith, length_more n l)) (cases_lt n 128)
 
 same_numbers : (ms ns : List ℕ) → numbers_bytes ms ≡ numbers_bytes ns → ms ≡ ns
 same_numbers [] [] e = refl

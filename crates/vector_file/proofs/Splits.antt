@@ -1,29 +1,66 @@
--- A file is its header and then its entries.
-use Rattle.std.proofs.Common.{◌≡◌, ℕ, ◌+◌, ◌<◌, ◌≤◌, List, [], ◌∷◌, ◌++◌, length, get_or, take, refl, ap, ◌∙◌, arith, length-append}
-use Rattle.std.specs.List.{flat_map}
+-- A file is its header and then its entries, one behind the other; how long they are.
+use Rattle.std.proofs.Common.{◌≡◌, ℕ, suc, ◌+◌, ◌-◌, ◌*◌, ◌<◌, ◌≤◌, ◌^◌, List, [], ◌∷◌, ◌++◌, length, get_or, take, fold, min, Fits, w64, refl, ap, ◌∙◌, sym, append_assoc, arith, length-append}
+use Rattle.std.specs.List.{sum_by, flat_map}
+use Rattle.std.proofs.lemmas.Grind.{flat_map-append}
+use Rattle.std.proofs.lemmas.List.{append-nil, take_more}
+use Rattle.std.proofs.lemmas.List.Concat.{length-flat_map}
+use Rattle.std.proofs.lemmas.List.Folds.{length-flat_map-take}
+use Rattle.std.proofs.lemmas.List.Sums.{sum_by-cons}
 use Rattle.vector_file.specs.declared.entry.Entry.{Entry}
 use Rattle.vector_file.specs.Numbers.{number_bytes, numbers_bytes}
 use Rattle.vector_file.specs.Files.{header_numbers, entry_numbers_of, file_bytes}
-use Rattle.vector_file.proofs.Joins.{joined_append, joined_room}
+use Rattle.vector_file.proofs.Groups.{word_length}
+
+pub numbers_size : (ns : List ℕ) → length (numbers_bytes ns) ≡ sum_by (λ n. length (number_bytes n)) ns
+numbers_size ns = length-flat_map number_bytes ns
+
+pub numbers_small : (ns : List ℕ) → ((i : ℕ) → Fits w64 (get_or ns i 0)) → sum_by (λ n. length (number_bytes n)) ns ≤ 10 * length ns
+numbers_small [] h = omega arith
+numbers_small (n ∷ ns) h = omega (arith, sum_by-cons (λ m. length (number_bytes m)) n ns, word_length n (omega (arith, h 0)), numbers_small ns (λ i. h (suc i)))
+
+-- a sum that stops at the largest number
+abbrev pub capped : ℕ → ℕ
+capped n = min n (2 ^ 64 - 1)
+
+lengths_sum : {X : Type 0} (f : X → List ℕ) (xs : List X) (n : ℕ) → fold (λ sum x. capped (sum + length (f x))) (capped n) xs ≡ capped (n + length (flat_map f xs))
+lengths_sum f [] n = ap capped (omega arith)
+lengths_sum f (x ∷ xs) n =
+    let e : capped (capped n + length (f x)) ≡ capped (n + length (f x)) = omega arith in
+    ap (λ k. fold (λ sum y. capped (sum + length (f y))) k xs) e
+    ∙ lengths_sum f xs (n + length (f x))
+    ∙ ap capped (omega (arith, length-append (f x) (flat_map f xs)))
 
 abbrev pub entry_bytes : Entry → List ℕ
 entry_bytes e = numbers_bytes (entry_numbers_of e)
 
--- the entry that stands for one past the end
-abbrev pub blank : Entry
-blank = record { vector = 0; response = 0 }
-
 entries_bytes : (deck : List Entry) → numbers_bytes (flat_map entry_numbers_of deck) ≡ flat_map entry_bytes deck
 entries_bytes [] = refl
-entries_bytes (e ∷ deck) = joined_append number_bytes (entry_numbers_of e) (flat_map entry_numbers_of deck) ∙ ap (λ zs. entry_bytes e ++ zs) (entries_bytes deck)
+entries_bytes (e ∷ deck) = flat_map-append number_bytes (entry_numbers_of e) (flat_map entry_numbers_of deck) ∙ ap (λ zs. entry_bytes e ++ zs) (entries_bytes deck)
 
-pub file_bytes_lem : (inputs outputs : ℕ) (deck : List Entry) → file_bytes inputs outputs deck ≡ numbers_bytes (header_numbers inputs outputs (length deck)) ++ flat_map entry_bytes deck
-file_bytes_lem inputs outputs deck = joined_append number_bytes (header_numbers inputs outputs (length deck)) (flat_map entry_numbers_of deck) ∙ ap (λ zs. numbers_bytes (header_numbers inputs outputs (length deck)) ++ zs) (entries_bytes deck)
+module _ (inputs outputs : ℕ) (deck : List Entry) where
+  abbrev pub header_bytes : List ℕ
+  header_bytes = numbers_bytes (header_numbers inputs outputs (length deck))
 
-pub file_size : (inputs outputs : ℕ) (deck : List Entry) → length (file_bytes inputs outputs deck) ≡ length (numbers_bytes (header_numbers inputs outputs (length deck))) + length (flat_map entry_bytes deck)
-file_size inputs outputs deck = ap length (file_bytes_lem inputs outputs deck) ∙ length-append (numbers_bytes (header_numbers inputs outputs (length deck))) (flat_map entry_bytes deck)
+  pub file_split : file_bytes inputs outputs deck ≡ header_bytes ++ flat_map entry_bytes deck
+  file_split = flat_map-append number_bytes (header_numbers inputs outputs (length deck)) (flat_map entry_numbers_of deck) ∙ ap (λ zs. header_bytes ++ zs) (entries_bytes deck)
 
--- where there is room for the file, there is for its next entry
-pub file_room : (inputs outputs : ℕ) (deck : List Entry) (i at room : ℕ) → i < length deck → at ≡ length (numbers_bytes (header_numbers inputs outputs (length deck)) ++ flat_map entry_bytes (take i deck)) → length (file_bytes inputs outputs deck) ≤ room → at + length (entry_bytes (get_or deck i blank)) ≤ room
-file_room inputs outputs deck i at room h e l =
-    omega (arith, file_size inputs outputs deck, length-append (numbers_bytes (header_numbers inputs outputs (length deck))) (flat_map entry_bytes (take i deck)), joined_room entry_bytes blank deck i h)
+  pub file_size : (n : ℕ) → n ≡ length header_bytes → n < 2 ^ 64 → fold (λ sum e. capped (sum + length (entry_bytes e))) n deck ≡ capped (length (file_bytes inputs outputs deck))
+  file_size n e h =
+      let s : n ≡ capped n = omega arith in
+      ap (λ k. fold (λ sum y. capped (sum + length (entry_bytes y))) k deck) s
+      ∙ lengths_sum entry_bytes deck n
+      ∙ ap capped (omega (arith, ap length file_split, length-append header_bytes (flat_map entry_bytes deck)))
+
+  -- the entry that stands for one past the end
+  abbrev pub blank : Entry
+  blank = record { vector = 0; response = 0 }
+
+  module _ (i : ℕ) (h : i < length deck) where
+    pub split_next : header_bytes ++ flat_map entry_bytes (take (i + 1) deck) ≡ (header_bytes ++ flat_map entry_bytes (take i deck)) ++ entry_bytes (get_or deck i blank)
+    split_next = ap (λ es. header_bytes ++ flat_map entry_bytes es) (take_more deck i blank h)
+        ∙ ap (λ zs. header_bytes ++ zs) (flat_map-append entry_bytes (take i deck) (get_or deck i blank ∷ []) ∙ ap (λ zs. flat_map entry_bytes (take i deck) ++ zs) (append-nil (entry_bytes (get_or deck i blank))))
+        ∙ sym (append_assoc header_bytes (flat_map entry_bytes (take i deck)) (entry_bytes (get_or deck i blank)))
+
+    -- where there is room for the file, there is for its next entry
+    pub split_room : length (header_bytes ++ flat_map entry_bytes (take i deck)) + length (entry_bytes (get_or deck i blank)) ≤ length (file_bytes inputs outputs deck)
+    split_room = omega (arith, ap length file_split, length-append header_bytes (flat_map entry_bytes deck), length-append header_bytes (flat_map entry_bytes (take i deck)), length-flat_map-take entry_bytes deck i blank h)

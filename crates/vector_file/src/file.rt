@@ -1,56 +1,60 @@
 // The file: the format's number, how many inputs, outputs and vectors there are, then each vector with its response.
-ghost use Rattle.std.specs.Prelude.{◌≡◌};
+ghost use Rattle.std.specs.Prelude.{◌≡◌, ◌-◌, ◌^◌, length, min};
 ghost use Rattle.report.specs.Outcome.{Written};
-ghost use Rattle.vector_file.specs.Files.{header_numbers, entry_numbers_of, file_bytes, EqualFilesEqualDecks};
-ghost use Rattle.vector_file.specs.Room.{length_within};
+ghost use Rattle.vector_file.specs.Files.{header_numbers, file_bytes, EqualFilesEqualDecks};
 
 use crate::entry::Entry;
-use crate::numbers::{room_behind, write_numbers};
+use crate::numbers::{numbers_length, write_numbers};
 use report::short::ShortBuffer;
 
 // The number of this format.
 const FORMAT: u64 = 1;
 
-// What stands before the vectors.
-fn header(inputs: usize, outputs: usize, vectors: usize) -> [u64; 4]
-    ensures { result ≡ header_numbers inputs outputs vectors }
-{
-    [FORMAT, inputs as u64, outputs as u64, vectors as u64]
+// How many inputs and outputs the circuit has, and its deck.
+#[derive(Clone, Copy, Debug, PartialEq, Eq)]
+pub struct VectorFile<'a> {
+    pub inputs: usize,
+    pub outputs: usize,
+    pub deck: &'a [Entry],
 }
 
-fn entry_numbers(entry: Entry) -> [u64; 2]
-    ensures { result ≡ entry_numbers_of entry }
-{
-    [entry.vector, entry.response]
-}
-
-// The length of the file, or None where it is over the room. It counts down from the room, so that no sum of lengths can wrap.
-fn file_length(inputs: usize, outputs: usize, deck: &[Entry], room: usize) -> Option<usize>
-    ensures { result ≡ length_within (file_bytes inputs outputs deck.now) room }
-{
-    let mut left = room_behind(&header(inputs, outputs, deck.len()), room)?;
-    for entry in deck {
-        left = room_behind(&entry_numbers(*entry), left)?;
+impl VectorFile<'_> {
+    // What stands before the vectors. The check proves that `as` loses no bits, and a `try_from` with its `unwrap` is no plainer.
+    fn header(&self) -> [u64; 4]
+        ensures { result ≡ header_numbers self.now.inputs self.now.outputs (length self.now.deck.now) }
+    {
+        [
+            FORMAT,
+            self.inputs as u64,
+            self.outputs as u64,
+            self.deck.len() as u64,
+        ]
     }
-    Some(room - left)
-}
 
-// Writes the file at the start of a buffer, or nothing where it is too short.
-pub fn write_file(
-    inputs: usize,
-    outputs: usize,
-    deck: &[Entry],
-    out: &mut [u8],
-) -> Result<usize, ShortBuffer>
-    ensures written { Written (file_bytes inputs outputs deck.now) out.old result out.new }
-    ensures equal_files_equal_decks { EqualFilesEqualDecks inputs outputs deck.now }
-{
-    let Some(length) = file_length(inputs, outputs, deck, out.len()) else {
-        return Err(ShortBuffer);
-    };
-    let mut at = write_numbers(&header(inputs, outputs, deck.len()), out);
-    for entry in deck {
-        at += write_numbers(&entry_numbers(*entry), &mut out[at..]);
+    // How many bytes the file has. The largest number stands for all that no buffer could hold, so that no sum wraps.
+    fn length(&self) -> usize
+        ensures { result ≡ min (length (file_bytes self.now.inputs self.now.outputs self.now.deck.now)) (2 ^ 64 - 1) }
+    {
+        self.deck.iter().fold(
+            numbers_length(&self.header()),
+            |sum, entry| sum.saturating_add(entry.length()),
+        )
     }
-    Ok(length)
+
+    // Writes the file at the start of a buffer, or nothing where it is too short.
+    #[tactic(auto, using(crate::proofs::Splits::split_room))]
+    pub fn write(&self, out: &mut [u8]) -> Result<usize, ShortBuffer>
+        ensures written { Written (file_bytes self.now.inputs self.now.outputs self.now.deck.now) out.old result out.new }
+        ensures equal_files_equal_decks { EqualFilesEqualDecks self.now.inputs self.now.outputs self.now.deck.now }
+    {
+        if out.len() < self.length() {
+            return Err(ShortBuffer);
+        }
+        let mut at = write_numbers(&self.header(), out);
+        // Not by a walk that keeps the free rest alone: it is unknown then what the whole buffer ends as.
+        for entry in self.deck {
+            at += write_numbers(&<[u64; 2]>::from(*entry), &mut out[at..]);
+        }
+        Ok(at)
+    }
 }

@@ -1,34 +1,30 @@
 // Numbers one behind the other.
-ghost use Rattle.std.specs.Prelude.{◌≡◌, ◌≤◌, length};
+ghost use Rattle.std.specs.Prelude.{◌≡◌, ◌≤◌, ◌*◌, length};
 ghost use Rattle.report.specs.Outcome.{Placed};
 ghost use Rattle.vector_file.specs.Numbers.{numbers_bytes};
-ghost use Rattle.vector_file.specs.Room.{left_behind};
 
 use crate::number::{number_length, write_number};
 
-// How much of a room is left behind the numbers, or None where they do not fit.
-pub(crate) fn room_behind(numbers: &[u64], room: usize) -> Option<usize>
-    ensures { result ≡ left_behind (numbers_bytes numbers.now) room }
+// How many bytes the numbers take. There is less than 2 ^ 60 of them, so that the sum cannot wrap.
+#[tactic(auto, using(crate::proofs::Splits::numbers_size))]
+pub(crate) fn numbers_length(numbers: &[u64]) -> usize
+    ensures value { result ≡ length (numbers_bytes numbers.now) }
+    ensures small { result ≤ 10 * length numbers.now }
 {
-    let mut left = room;
-    for n in numbers {
-        let len = number_length(*n);
-        if left < len {
-            return None;
-        }
-        left -= len;
-    }
-    Some(left)
+    numbers.iter().map(|n| number_length(*n)).sum()
 }
 
-// Writes the numbers at the start of a buffer that has room for them.
+// Writes the numbers at the start of a buffer that has room for them, each into the part of it that is still free.
 pub(crate) fn write_numbers(numbers: &[u64], out: &mut [u8]) -> usize
     requires { length (numbers_bytes numbers.now) ≤ length out.old }
     ensures { Placed (numbers_bytes numbers.now) out.old result out.new }
 {
-    let mut at = 0;
-    for n in numbers {
-        at += write_number(*n, &mut out[at..]);
+    match numbers {
+        [] => 0,
+        [n, others @ ..] => {
+            let at = write_number(*n, out);
+            let (_, free) = out.split_at_mut(at);
+            at + write_numbers(others, free)
+        }
     }
-    at
 }

@@ -3,8 +3,9 @@
 
 #[cfg(test)]
 mod tests {
+    use report::short::ShortBuffer;
     use vector_file::entry::Entry;
-    use vector_file::file::write_file;
+    use vector_file::file::VectorFile;
 
     #[test]
     fn two_vectors_and_the_bytes_behind(rt: HostRuntime) {
@@ -18,8 +19,13 @@ mod tests {
                 response: 1,
             },
         ];
+        let file = VectorFile {
+            inputs: 2,
+            outputs: 1,
+            deck: &deck,
+        };
         let mut out = [46u8; 10];
-        assert_eq!(rt; write_file(2, 1, &deck, &mut out).ok(), Some(8));
+        assert_eq!(rt; file.write(&mut out), Ok(8));
         assert!(rt; &out[..] == b"\x01\x02\x01\x02\x02\x00\x01\x01..".as_slice());
     }
 
@@ -29,8 +35,13 @@ mod tests {
             vector: 300,
             response: u64::MAX,
         }];
+        let file = VectorFile {
+            inputs: 127,
+            outputs: 128,
+            deck: &deck,
+        };
         let mut out = [46u8; 17];
-        assert_eq!(rt; write_file(127, 128, &deck, &mut out).ok(), Some(17));
+        assert_eq!(rt; file.write(&mut out), Ok(17));
         assert!(rt;
             &out[..]
                 == b"\x01\x7f\x80\x01\x01\xac\x02\xff\xff\xff\xff\xff\xff\xff\xff\xff\x01".as_slice()
@@ -39,8 +50,13 @@ mod tests {
 
     #[test]
     fn a_byte_too_short_stays(rt: HostRuntime) {
+        let file = VectorFile {
+            inputs: 0,
+            outputs: 0,
+            deck: &[],
+        };
         let mut out = [46u8; 3];
-        assert!(rt; write_file(0, 0, &[], &mut out).is_err());
+        assert_eq!(rt; file.write(&mut out), Err(ShortBuffer));
         assert!(rt; &out[..] == b"...".as_slice());
     }
 }

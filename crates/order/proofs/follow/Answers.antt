@@ -1,14 +1,14 @@
 use Rattle.std.proofs.Common.{◌≡◌, ◌<◌, length, refl, ap, ◌∙◌, arith}
 use Rattle.std.proofs.lemmas.List.{length-set}
 use Rattle.walk.specs.declared.mark.Mark.TheVariants.{Done}
-use Rattle.walk.proofs.Turns.{opens, opening, lighter, is_open, is_marked, order_lacks, path_lacks, ends, leaves, looks, passes, deepens, meets}
+use Rattle.walk.proofs.Turns.{opens, opening, is_open, is_marked, order_lacks, path_lacks, ends, leaves, looks, passes, deepens, meets}
 use Rattle.walk.proofs.Tables.{cells_size}
-use Rattle.order.proofs.Path.{pushes, lies}
+use Rattle.order.proofs.Path.{lies}
 use Rattle.order.proofs.follow.Goals as goal
 
 pub walk-init : goal.walk-init
 walk-init c =
-    let size : length c.args.marks.now ≡ length c.args.nets.now = c.requires.walk.size ∙ cells_size c.args.nets.now c.args.pins.now in (
+    let size : length c.args.marks.now ≡ length c.args.gates.nets.now = c.requires.walk.size ∙ cells_size c.args.gates.nets.now c.args.gates.pins.now in (
       opens c.requires.walk c.requires.new (omega (arith, c.requires.is_net, size)) c.over-path.ensures.0 c.count.ensures.value,
       omega (arith, c.requires.room, ap length c.over-path.ensures.1),
       refl,
@@ -20,7 +20,7 @@ pub left_at-left-requires : goal.left_at-left-requires
 left_at-left-requires c = record { net = omega (arith, c.walk.invariant.3, c.walk.invariant.4); opened = is_open c.walk.invariant.0 }
 
 pub push_reserved-requires : goal.push_reserved-requires
-push_reserved-requires c = omega (arith, order_lacks c.walk.invariant.0, c.requires.capacity, c.walk.invariant.2, cells_size c.args.nets.now c.args.pins.now)
+push_reserved-requires c = omega (arith, order_lacks c.walk.invariant.0, c.requires.capacity, c.walk.invariant.2, cells_size c.args.gates.nets.now c.args.gates.pins.now)
 
 pub returns-in-None : goal.returns-in-None
 returns-in-None c = record {
@@ -42,23 +42,13 @@ walk-preserved-in-Some c =
 pub operand-read-requires : goal.operand-read-requires
 operand-read-requires c = record {
   net = c.walk.invariant.3;
-  formed = c.requires.formed;
   place = omega (arith, looks c.walk.invariant.0 c.left_at-left.ensures (λ none. omega arith));
 }
-
-pub unwrap-requires : goal.unwrap-requires
-unwrap-requires c =
-    let within : c.operand-read.result < length c.walk.marks = omega (arith, c.operand-read.ensures.net, c.walk.invariant.4) in
-    pushes c.walk.path c.push.new.self c.walk.net c.push.result (omega (arith, path_lacks c.walk.invariant.0 within c.in-New.is, c.walk.invariant.1, cells_size c.args.nets.now c.args.pins.now)) c.push.ensures
-
-pub walk-smaller-in-New : goal.walk-smaller-in-New
-walk-smaller-in-New c =
-    lighter c.walk.marks c.operand-read.result _ (omega (arith, c.operand-read.ensures.net, c.walk.invariant.4)) c.in-New.is (omega (arith, c.count-in-New.ensures.few))
 
 pub walk-preserved-in-New : goal.walk-preserved-in-New
 walk-preserved-in-New c =
     let within : c.operand-read.result < length c.walk.marks = omega (arith, c.operand-read.ensures.net, c.walk.invariant.4) in
-    let (pushed, same-room) = lies c.walk.path c.push.new.self c.walk.net c.push.result (omega (arith, path_lacks c.walk.invariant.0 within c.in-New.is, c.walk.invariant.1, cells_size c.args.nets.now c.args.pins.now)) c.push.ensures in (
+    let (pushed, same-room) = lies c.walk.path c.push.new.self c.walk.net c.push.result (omega (arith, path_lacks c.walk.invariant.0 within c.in-New.is, c.walk.invariant.1, cells_size c.args.gates.nets.now c.args.gates.pins.now)) c.push.ensures in (
       deepens c.walk.invariant.0 c.left_at-left.ensures (λ none. omega arith) c.operand-read.ensures.value c.in-New.is within pushed c.count-in-New.ensures.value,
       omega (arith, same-room, c.walk.invariant.1),
       c.walk.invariant.2,
@@ -68,7 +58,7 @@ walk-preserved-in-New c =
 
 pub returns-in-Open : goal.returns-in-Open
 returns-in-Open c = record {
-  walk = meets c.walk.invariant.0 c.left_at-left.ensures (λ none. omega arith) c.operand-read.ensures.value c.in-Open.is;
+  walk = (refl, meets c.walk.invariant.0 c.left_at-left.ensures (λ none. omega arith) c.operand-read.ensures.value c.in-Open.is);
   capacity = c.walk.invariant.2;
 }
 

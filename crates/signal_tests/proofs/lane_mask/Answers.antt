@@ -1,4 +1,4 @@
-use Rattle.std.proofs.Common.{◌≡◌, ℕ, ◌-◌, ◌/◌, ◌^◌, ◌<◌, eqb, sym, refl, ap, ◌∙◌, arith}
+use Rattle.std.proofs.Common.{◌≡◌, ℕ, ◌-◌, ◌/◌, ◌^◌, ◌<◌, eqb, sym, refl, ◌∙◌, arith}
 use Rattle.std.proofs.lemmas.Bool.{eqb-true}
 use Rattle.model.proofs.Finite.{at_number}
 use Rattle.signal_tests.proofs.lane_mask.Goals as goal
@@ -10,4 +10,4 @@ pub returns : goal.returns
 returns g c =
     let met = g.met.A.Algebra in
     let few = met.operations.few_lanes in
-    record { mask = ap (λ n. (2 ^ 64 - 1) / 2 ^ (64 - n)) (c.get.ensures.counted ∙ sym met.lanes) ∙ ones _ (omega (arith, few)) }
+    record { mask = rw (c.LANES.ensures ∙ sym met.lanes) (ones _ (omega (arith, few))) }

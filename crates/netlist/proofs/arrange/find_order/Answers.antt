@@ -1,50 +1,53 @@
-use Rattle.std.proofs.Common.{ℕ, List, length, get_or, vec_items, ap, ◌∙◌, subst, arith}
+use Rattle.std.proofs.Common.{◌<◌, List, length, get_or, vec_items, sym, ap, ◌∙◌, subst, arith}
+use Rattle.std.proofs.lemmas.List.{get_or-map, length-map}
+use Rattle.netlist.specs.declared.tables.Definition.{Definition}
 use Rattle.grammar.specs.Rules.{nets}
-use Rattle.bench.specs.SoFar.{declared}
 use Rattle.circuit.specs.Circuit.{Cell}
 use Rattle.circuit.specs.Circles.{Sorted, CircleFree, FirstDependent}
-use Rattle.elaborate.specs.Whole.{net_lines}
 use Rattle.elaborate.proofs.Accepted.{sorted_ordered}
 use Rattle.elaborate.proofs.Growth.{length-cells}
+use Rattle.elaborate.proofs.NetLines.{length-lines}
+use Rattle.netlist.specs.Accepted.{declared_in}
 use Rattle.netlist.proofs.LayAll.{within_limits_lem}
 use Rattle.netlist.proofs.Ordering.{tables_size, tables_formed, tables_cells, accepted_all, refused_first}
 use Rattle.netlist.proofs.arrange.find_order.Goals as goal
 
-pub arrange-met-requires : goal.arrange-met-requires
-arrange-met-requires c =
-    let d = c.args.declarations.now in
+pub invariant_of-gates : goal.invariant_of-gates
+invariant_of-gates c =
+    let ds = declared_in c.args.text in
     let t = c.args.parts.now.tables in
     let laid = c.requires.resolved.laid in
-    let size = tables_size (declared d) t laid in
-    let slice = ap length c.as_slice.ensures.value in
-    let few = (within_limits_lem (declared d) d.within).0 in
-    let made = c.in_ok-order.ensures in
     record {
-      formed = tables_formed (declared d) t c.as_slice.result.now c.as_slice-2.result.now c.as_slice.ensures.value c.as_slice-2.ensures.value laid;
-      few = omega (arith, size, slice, few);
-      room = omega (arith, size, slice, few, c.requires.room);
-      marks = omega (arith, ap length c.as_mut_slice.ensures.value, c.in_ok-marks.marks.ok.0, c.in_ok-marks.ensures.len, c.len-count.ensures, slice, t.nets.ok.0);
-      capacity = omega (arith, made.capacity, c.len-count.ensures, slice, t.nets.ok.0);
-      empty = made.items;
+      formed = tables_formed ds t c.as_slice.result.now c.as_slice-2.result.now c.as_slice.ensures.value c.as_slice-2.ensures.value laid;
+      few = omega (arith, tables_size ds t laid, ap length c.as_slice.ensures.value, (within_limits_lem ds c.args.text.declarations.now.within).0);
     }
 
-pub line_of-requires : goal.line_of-requires
-line_of-requires c =
-    let d = c.args.declarations.now in
-    let cells = tables_cells (declared d) c.args.parts.now.tables c.as_slice.result.now c.as_slice-2.result.now c.as_slice.ensures.value c.as_slice-2.ensures.value c.requires.resolved.laid in
-    omega (arith, c.in-Some.ensures.0, ap length cells, length-cells (nets (declared d)) 0 (declared d), c.from.ensures)
+pub arrange-requires-clause-room : goal.arrange-requires-clause-room
+arrange-requires-clause-room c =
+    let ds = declared_in c.args.text in
+    omega (arith, tables_size ds c.args.parts.now.tables c.requires.resolved.laid, ap length c.as_slice.ensures.value, (within_limits_lem ds c.args.text.declarations.now.within).0, c.requires.room)
 
-pub returns-in-None : goal.returns-in-None
-returns-in-None c =
-    let d = c.args.declarations.now in
-    let cells = tables_cells (declared d) c.args.parts.now.tables c.as_slice.result.now c.as_slice-2.result.now c.as_slice.ensures.value c.as_slice-2.ensures.value c.requires.resolved.laid in
-    let P : List Cell → Type 0 = λ xs. Sorted xs (vec_items c.arrange-met.new.order) × CircleFree xs in
-    let both = subst P cells c.in-None.ensures in
-    (both.0, accepted_all (declared d) c.args.parts.now c.requires.text c.requires.resolved both.1, sorted_ordered (declared d) (vec_items c.arrange-met.new.order) both.0 c.requires.resolved.listed)
+pub index-definition-requires : goal.index-definition-requires
+index-definition-requires c =
+    let ds = declared_in c.args.text in
+    let t = c.args.parts.now.tables in
+    let cells = tables_cells ds t c.as_slice.result.now c.as_slice-2.result.now c.as_slice.ensures.value c.as_slice-2.ensures.value c.requires.resolved.laid in
+    omega (arith, c.in-Err.ensures.0, ap length cells, length-cells (nets ds) 0 ds, length-lines ds, ap length c.requires.resolved.laid.lined, length-map (vec_items t.definitions) (λ (d : Definition). d.line), t.definitions.ok.0)
 
-pub returns-in-Some : goal.returns-in-Some
-returns-in-Some c =
-    let d = c.args.declarations.now in
-    let cells = tables_cells (declared d) c.args.parts.now.tables c.as_slice.result.now c.as_slice-2.result.now c.as_slice.ensures.value c.as_slice-2.ensures.value c.requires.resolved.laid in
-    let P : List Cell → Type 0 = λ xs. FirstDependent xs c.in-Some.net in
-    refused_first (declared d) c.args.parts.now c.requires.text c.requires.resolved c.in-Some.net c.line_of.result (c.line_of.ensures ∙ ap (λ (k : ℕ). get_or (net_lines (declared d)) k 0) c.from.ensures) (subst P cells c.in-Some.ensures)
+pub returns-in-Ok : goal.returns-in-Ok
+returns-in-Ok c =
+    let ds = declared_in c.args.text in
+    let cells = tables_cells ds c.args.parts.now.tables c.as_slice.result.now c.as_slice-2.result.now c.as_slice.ensures.value c.as_slice-2.ensures.value c.requires.resolved.laid in
+    let P : List Cell → Type 0 = λ xs. Sorted xs (vec_items c.arrange.new.order) × CircleFree xs in
+    let both = subst P cells c.in-Ok.ensures in
+    (both.0, accepted_all ds c.args.parts.now c.args.text.rising c.requires.resolved both.1, sorted_ordered ds (vec_items c.arrange.new.order) both.0 c.requires.resolved.listed)
+
+pub returns-in-Err : goal.returns-in-Err
+returns-in-Err c =
+    let ds = declared_in c.args.text in
+    let t = c.args.parts.now.tables in
+    let cells = tables_cells ds t c.as_slice.result.now c.as_slice-2.result.now c.as_slice.ensures.value c.as_slice-2.ensures.value c.requires.resolved.laid in
+    let P : List Cell → Type 0 = λ xs. FirstDependent xs c.in-Err.circle.net in
+    let inside : c.in-Err.circle.net < length (vec_items t.definitions) = omega (arith, c.in-Err.ensures.0, ap length cells, length-cells (nets ds) 0 ds, length-lines ds, ap length c.requires.resolved.laid.lined, length-map (vec_items t.definitions) (λ (d : Definition). d.line)) in
+    let line = ap (λ (d : Definition). d.line) c.index-definition.ensures ∙ sym (get_or-map (λ (d : Definition). d.line) (vec_items t.definitions) c.in-Err.circle.net c.index-definition.result.now 0 inside) ∙ ap (λ ls. get_or ls c.in-Err.circle.net 0) c.requires.resolved.laid.lined in
+    refused_first ds c.args.parts.now c.args.text.rising c.requires.resolved c.in-Err.circle.net c.index-definition.result.now.line line (subst P cells c.in-Err.ensures)

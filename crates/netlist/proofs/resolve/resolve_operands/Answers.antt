@@ -1,33 +1,30 @@
 use Rattle.std.proofs.Common.{length, vec_items, ap, ◌∙◌, arith}
-use Rattle.names.specs.Tables.{bytes_of}
+use Rattle.std.proofs.lemmas.Result.{err_from_is_err_and}
 use Rattle.grammar.specs.Rules.{nets}
-use Rattle.bench.specs.SoFar.{declared}
-use Rattle.text.specs.Tokens.{names_left}
+use Rattle.text.specs.Tokens.{names_of}
 use Rattle.elaborate.specs.Elaborate.{place_of}
-use Rattle.netlist.proofs.Resolving.{found_place, found_among, missing, covered_more, uncovered_more, uncovered_here, resolved_more}
+use Rattle.netlist.specs.Accepted.{declared_in}
+use Rattle.netlist.proofs.Resolving.{covered_more, uncovered_more, uncovered_here, resolved_more}
 use Rattle.netlist.proofs.resolve.resolve_operands.Goals as goal
 
-pub returns-in_default-find_net : goal.returns-in_default-find_net
-returns-in_default-find_net c =
-    let ns = nets (declared c.args.declarations.now) in
-    let given = c.in-Some.ensures in
-    record {
-      resolves = c.loop-operand.invariant.4 (uncovered_here ns (names_left c.next_name.new.self) (names_left c.loop-operand.operands) (bytes_of c.in-Some.operand) given.0 (missing ns (bytes_of c.in-Some.operand) c.in_default-find_net.ensures));
-      capacity = c.loop-operand.invariant.2;
-    }
+pub returns-in_err-number_of-clause-resolves : goal.returns-in_err-number_of-clause-resolves
+returns-in_err-number_of-clause-resolves c =
+    let ns = nets (declared_in c.args.text) in
+    let p = err_from_is_err_and c.from_residual.result c.from_residual.ensures.1 in
+    rw (p.1, p.2) (c.in_err-number_of.ensures.0, c.loop-operand.invariant.4 (uncovered_here ns (names_of c.next.new.self) (names_of c.loop-operand.operand-iterator) c.in-Some.operand.bytes.now c.in-Some.ensures.steps.0 c.in_err-number_of.ensures.1))
 
 pub loop-operand-preserved : goal.loop-operand-preserved
 loop-operand-preserved c =
-    let ns = nets (declared c.args.declarations.now) in
-    let n = bytes_of c.in-Some.operand in
-    let left = names_left c.next_name.new.self in
-    let all = names_left c.loop-operand.operands in
-    let given = c.in-Some.ensures in
-    let found = c.in-Some-find_net.ensures in
+    let ns = nets (declared_in c.args.text) in
+    let n = c.in-Some.operand.bytes.now in
+    let left = names_of c.next.new.self in
+    let all = names_of c.loop-operand.operand-iterator in
+    let given = c.in-Some.ensures.steps.0 in
+    let found = c.in_ok-number_of.ensures in
     let pushed = c.push_reserved.ensures in (
-      resolved_more (place_of ns) (vec_items c.loop-operand.pins) (vec_items c.push_reserved.new.self) left all n c.in-Some-find_net.net given.0 (found_place ns n c.in-Some-find_net.net c.requires.distinct found) pushed.items ∙ c.loop-operand.invariant.0,
-      omega (arith, c.loop-operand.invariant.1, ap length given.0, pushed.len, pushed.capacity),
+      resolved_more (place_of ns) (vec_items c.loop-operand.pins) (vec_items c.push_reserved.new.self) left all n c.in_ok-number_of.field-0 given found.1 pushed.items ∙ c.loop-operand.invariant.0,
+      omega (arith, c.loop-operand.invariant.1, ap length given, pushed.len, pushed.capacity),
       pushed.capacity ∙ c.loop-operand.invariant.2,
-      λ h. c.loop-operand.invariant.3 (covered_more ns left all n given.0 (found_among ns n c.in-Some-find_net.net found) h),
-      λ h. c.loop-operand.invariant.4 (uncovered_more ns left all n given.0 h),
+      λ h. c.loop-operand.invariant.3 (covered_more ns left all n given found.0 h),
+      λ h. c.loop-operand.invariant.4 (uncovered_more ns left all n given h),
     )

@@ -1,24 +1,35 @@
--- The table's rule is tested at all of its entries at once.
-use Rattle.std.proofs.Common.{◌≡◌, ℕ, ◌+◌, ◌*◌, ◌/◌, ◌%◌, ◌<◌, arith, rules}
-use Rattle.model.proofs.Table.{entry as follows-rule}
-use Rattle.nine.specs.Nine.{entry_of}
+-- The table is tested at all of its entries.
+use denote.Enum.Declared.{tag_of}
+use Rattle.std.proofs.Common.{◌≡◌, ℕ, ◌+◌, ◌*◌, Bool, true, eqb, get_or, refl}
+use Rattle.std.proofs.lemmas.Bool.{eqb-true}
+use Rattle.nine.specs.Nine.{gate3, sides, number_below}
+use Rattle.nine.specs.NineValues.{nines, same_number}
+use Rattle.nine.specs.declared.Nine.{Nine}
+use Rattle.nine.specs.declared.table.Operation.{Operation}
+use Rattle.nine.specs.declared.table.Operation.TheVariants.{And, Or, Xor}
+use Rattle.nine.specs.declared.table.TheConstants.{TABLE}
+use Rattle.nine.specs.contracts.table.Operation.{the_type}
 use Rattle.nine.proofs.table.entry.Goals as goal
 
--- what stands at 81k + 9x + y
-abbrev rule : ℕ → ℕ
-rule j = entry_of (j / 81) (j / 9 % 9) (j % 9)
+abbrev test : Operation → Nine → Nine → Bool
+test k x y = eqb (get_or TABLE (81 * tag_of the_type k + 9 * x.number + y.number) 0) (sides (gate3 k) x y).number
 
-split : (k x y : ℕ) → x < 9 → y < 9 → rule (81 * k + 9 * x + y) ≡ entry_of k x y
-split k x y hx hy =
-    let a : (81 * k + 9 * x + y) / 81 ≡ k = omega arith in
-    let b : (81 * k + 9 * x + y) / 9 % 9 ≡ x = omega arith in
-    let d : (81 * k + 9 * x + y) % 9 ≡ y = omega arith in
-    rw (a, b, d)
+passed : (k : Operation) → nines.all (λ x. nines.all (test k x)) ≡ true
+passed And = refl
+passed Or = refl
+passed Xor = refl
+
+-- what stands at the place of two numbers
+found : (k : Operation) (x y : Nine) (i j : ℕ) → i ≡ x.number → j ≡ y.number
+    → get_or TABLE (81 * tag_of the_type k + 9 * i + j) 0 ≡ (sides (gate3 k) x y).number
+found k x y i j is_x is_y = rw (is_x, is_y) (eqb-true _ _ (nines.at (test k x) (nines.at (λ x. nines.all (test k x)) (passed k) x) y))
+
+pub invariant_of-result : goal.invariant_of-result
+invariant_of-result c =
+    let is = found c.args.operation c.args.x c.args.y _ _ c.from.ensures c.from-2.ensures in
+    record { nine = rw is (number_below _ _) }
 
 pub returns : goal.returns
 returns c =
-    let x : c.args.x < 9 = search rules in
-    let y : c.args.y < 9 = search rules in
-    let inside : 81 * c.args.k + 9 * c.args.x + c.args.y < 243 = omega arith in
-    let is = split c.args.k c.args.x c.args.y x y in
-    search (follows-rule rule 243, is, inside)
+    let is = found c.args.operation c.args.x c.args.y _ _ c.from.ensures c.from-2.ensures in
+    record { ruled = same_number _ _ is }

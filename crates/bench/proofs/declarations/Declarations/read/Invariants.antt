@@ -1,4 +1,4 @@
-use Rattle.std.proofs.Common.{◌≡◌, ◌-◌, List, length}
+use Rattle.std.proofs.Common.{◌≡◌, List}
 use Rattle.grammar.specs.Lines.{lines}
 use Rattle.grammar.specs.Rules.{Declaration}
 use Rattle.grammar.specs.Reading.{Answer, ReadsFrom}
@@ -10,7 +10,4 @@ use Rattle.bench.proofs.declarations.Declarations.read.Given as goal
 -- whatever comes of the lines left comes of all lines, and what stood in the text still stands
 abbrev pub invariant-loop-line : goal.invariant-loop-line
 invariant-loop-line l =
-    ((a : Answer) (es : List Declaration) → Goes l.reader l.self a es → ReadsFrom 1 (declared l.initial.self) (lines l.text) a es) × (AllStand l.text (items l.initial.self) → AllStand l.text (items l.self)) × (l.reader.text.now ≡ l.text)
-
-abbrev pub decreases-loop-line : goal.decreases-loop-line
-decreases-loop-line l = length l.reader.text.now - l.reader.at
+    ((a : Answer) (es : List Declaration) → Goes l.line-iterator l.self a es → ReadsFrom 1 (declared l.initial.self) (lines l.text) a es) × (AllStand l.text (items l.initial.self) → AllStand l.text (items l.self)) × (l.line-iterator.text.now ≡ l.text)

@@ -1,6 +1,0 @@
-use Rattle.std.proofs.Common.{rules}
-use Rattle.names.proofs.Chains.{bucket_all}
-use Rattle.names.proofs.table.ops.bucket_of.Goals as goal
-
-pub returns-clause-value : goal.returns-clause-value
-returns-clause-value c = search (rules, bucket_all)
