@@ -2,3 +2,4 @@ pub mod Settle
 pub mod Tested
 pub mod Fit
 pub mod Formed
+pub mod Readers

@@ -3,3 +3,4 @@ pub mod Circles
 pub mod Listed
 pub mod Tables
 pub mod Computed
+pub mod Readers

@@ -3,6 +3,7 @@
 #![tactic(auto)]
 
 ghost use Rattle.circuit.specs.Computed.{TestsAsDefined, PassingTablesFit};
+ghost use Rattle.circuit.specs.Readers.{ReadersAreThoseThatRead};
 
 pub mod net;
 
@@ -10,4 +11,5 @@ pub mod net;
 pub fn tests_tell()
     ensures tests_as_defined { TestsAsDefined }
     ensures passing_tables_fit { PassingTablesFit }
+    ensures readers { ReadersAreThoseThatRead }
 {}

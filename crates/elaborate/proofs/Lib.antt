@@ -10,3 +10,4 @@ pub mod Accepted
 pub mod Refused
 pub mod Answer
 pub mod Example
+pub mod Fitted

@@ -10,6 +10,7 @@ use Rattle.grammar.specs.Rules.{Declaration, Among, pins_of, inputs, pins}
 use Rattle.circuit.specs.Circuit.{Cell}
 use Rattle.circuit.specs.Tables as tables
 use Rattle.circuit.specs.Tables.{Formed}
+use Rattle.circuit.proofs.Fit.{follow_input, follow_gate}
 use Rattle.circuit.specs.declared.net.Net.{Net}
 use Rattle.circuit.specs.declared.net.Net.TheVariants.{Input, Gate}
 use Rattle.elaborate.specs.Elaborate.{place_of, kind_of, cell_of, cells_with}
@@ -38,7 +39,7 @@ still_formed wires more n (Gate kind first count) (inside, few, below) = (
 
 module _ (names : List (List ℕ)) where
   pub tabled_none : Tabled names [] [] []
-  tabled_none = record { cells = refl; wired = refl; formed = tt }
+  tabled_none = record { cells = refl; wired = refl; formed = tt; follow = refl }
 
   module _ (ds : List Declaration) (d : Declaration) (table : List Net) (wires : List ℕ) (so_far : Tabled names ds table wires) where
     wires_more : (os : List (List ℕ)) → pins_of d.says ≡ os → wires ++ map (place_of names) os ≡ map (place_of names) (pins (ds ++ d ∷ []))
@@ -55,6 +56,7 @@ module _ (names : List (List ℕ)) where
       cells = map_push (tables.cell_of wires) table (Input (length (inputs ds))) ∙ cells_more (input n) e;
       wired = sym (append-nil wires) ∙ wires_more [] (ap pins_of e);
       formed = All-push (Formed wires (length names)) table (Input (length (inputs ds))) so_far.formed tt;
+      follow = follow_input 0 (length wires) table (length (inputs ds)) so_far.follow;
     }
 
     -- an output's line
@@ -63,6 +65,7 @@ module _ (names : List (List ℕ)) where
       cells = sym (append-nil (tables.cells_of table wires)) ∙ cells_more (output n) e;
       wired = sym (append-nil wires) ∙ wires_more [] (ap pins_of e);
       formed = so_far.formed;
+      follow = so_far.follow;
     }
 
     -- a gate's line, whose operands are defined
@@ -86,4 +89,5 @@ module _ (names : List (List ℕ)) where
                 let at = get_or-map (place_of names) os q [] 0 h in
                 omega (arith, is, at, place_below names (get_or os q []) (defined (get_or os q []) (q, h, refl))),
           );
+          follow = follow_gate 0 (length wires) (length (wires ++ ps)) table kind (length os) (omega (arith, size, length-append wires ps)) so_far.follow;
         }

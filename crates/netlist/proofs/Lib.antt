@@ -5,3 +5,4 @@ mod LayAll
 mod Refusing
 mod Ordering
 mod Making
+mod Listing

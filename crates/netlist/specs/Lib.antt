@@ -1,5 +1,6 @@
 pub mod Names
 pub mod Accepted
+pub mod Readers
 pub mod Resolved
 pub mod Laid
 pub mod Building

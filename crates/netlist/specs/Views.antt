@@ -4,6 +4,7 @@ use Rattle.std.specs.Borrow.{Bor}
 use Rattle.model.specs.declared.counts.Counts.{Counts}
 use Rattle.circuit.specs.Circuit as circuit
 use Rattle.circuit.specs.Tables.{cells_of}
+use Rattle.circuit.specs.Readers.{readers_of}
 use Rattle.circuit.specs.declared.net.Net.{Net}
 use Rattle.netlist.specs.declared.whole.Netlist.{Netlist}
 use Rattle.netlist.specs.Names.{names_of}
@@ -38,3 +39,8 @@ order_in n = vec_items n.order
 abbrev pub Named : Netlist → ℕ → Option (Bor (List ℕ)) → Type 0
 Named n k (Some name) = (k < length (names_in n)) × (name.now ≡ slice_index_or (names_in n) k [])
 Named n k None = length (names_in n) ≤ k
+
+-- the nets that read net k, or none where there is no such net
+abbrev pub ReadBy : Netlist → ℕ → Option (Bor (List ℕ)) → Type 0
+ReadBy n k (Some readers) = (k < length (netlist_in n).cells) × (readers.now ≡ readers_of (netlist_in n).cells k)
+ReadBy n k None = length (netlist_in n).cells ≤ k

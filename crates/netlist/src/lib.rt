@@ -6,6 +6,7 @@ mod arrange;
 pub mod fault;
 pub mod limits;
 mod load;
+mod readers;
 mod resolve;
 mod tables;
 pub mod whole;

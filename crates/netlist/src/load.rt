@@ -4,9 +4,10 @@ ghost use Rattle.netlist.specs.Accepted.{declared_in};
 ghost use Rattle.netlist.specs.Loading.{Builds, Loads, Makes};
 
 use crate::accepted::Accepted;
-use crate::arrange::find_order;
+use crate::arrange::{find_order, gates_in};
 use crate::fault::LoadFault;
 use crate::limits::{CELLS, LINKS};
+use crate::readers::list_readers;
 use crate::resolve::resolve;
 use crate::whole::Netlist;
 use bench::declarations::Declarations;
@@ -19,7 +20,8 @@ fn build(heap: Global, text: Accepted<'_, '_>, cells: &mut [u16]) -> Result<Netl
 {
     let parts = resolve(heap, text)?;
     let order = find_order(heap, text, &parts, cells)?;
-    Ok(Netlist::of(parts, order))
+    let readers = list_readers(heap, gates_in(text, &parts))?;
+    Ok(Netlist::of(parts, order, readers))
 }
 
 // The netlist that a text declares.

@@ -88,6 +88,24 @@ mod tests {
     }
 
     #[test]
+    fn readers_in_line_order(rt: HostRuntime) -> Result<(), Fail> {
+        let heap = rt.alloc();
+        let mut cells = vec![in heap; 0u16; CELLS]?;
+        let mut links = vec![in heap; 0u16; LINKS]?;
+        let mut netlist = Netlist::empty(heap);
+        // q reads a at two places, and stands above p
+        let text = b"INPUT(a)\nOUTPUT(y)\nq = XOR(a, p, a)\np = BUFF(a)\ny = AND(q, p)\n";
+        netlist.load(heap, text, cells.as_mut_slice(), links.as_mut_slice()).map_err(|_| "refused")?;
+        let none: &[u16] = &[];
+        assert_eq!(rt; netlist.readers(0), Some(&[1u16, 2][..]));
+        assert_eq!(rt; netlist.readers(1), Some(&[3u16][..]));
+        assert_eq!(rt; netlist.readers(2), Some(&[1u16, 3][..]));
+        assert_eq!(rt; netlist.readers(3), Some(none));
+        assert_eq!(rt; netlist.readers(4), None);
+        Ok(())
+    }
+
+    #[test]
     fn few_cells_come_first(rt: HostRuntime) -> Result<(), Fail> {
         let heap = rt.alloc();
         let mut cells = vec![in heap; 0u16; 2047]?;

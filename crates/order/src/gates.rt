@@ -18,18 +18,17 @@ pub struct Gates<'a> {
 impl<'a> Gates<'a> {
     ghost use Rattle.std.specs.Prelude.{◌≡◌, ◌<◌, ◌≤◌, length, slice_index};
     ghost use Rattle.circuit.specs.Circuit.{operands_at};
-    ghost use Rattle.order.specs.Cells.{cells_in};
+    ghost use Rattle.order.specs.Cells.{cells_in, Reads};
 
-    fn operands(self, net: u16) -> &'a [u16]
-        requires { net < length self.nets.now }
-        ensures value { result.now ≡ operands_at (cells_in self.entry) net }
-        ensures few { length result.now ≤ 16 }
+    // What a net reads, operand by operand; none where there is no such net.
+    pub fn operands(self, net: u16) -> Option<&'a [u16]>
+        ensures { Reads self.entry net result }
     {
-        match self.nets[net as usize] {
-            Net::Input(_) => &[],
+        match *self.nets.get(net as usize)? {
+            Net::Input(_) => Some(&[]),
             Net::Gate(_, first, count) => {
                 let start = first as usize;
-                &self.pins[start..start + count as usize]
+                Some(&self.pins[start..start + count as usize])
             }
         }
     }
@@ -40,7 +39,7 @@ impl<'a> Gates<'a> {
         ensures value { result ≡ length (operands_at (cells_in self.entry) net) }
         ensures few { result ≤ 16 }
     {
-        self.operands(net).len() as u16
+        self.operands(net).unwrap().len() as u16
     }
 
     // The operand of a net at a place.
@@ -50,6 +49,6 @@ impl<'a> Gates<'a> {
         ensures value { result ≡ slice_index (operands_at (cells_in self.entry) net) place }
         ensures net { result < length self.entry.nets.now }
     {
-        self.operands(net)[place as usize]
+        self.operands(net).unwrap()[place as usize]
     }
 }

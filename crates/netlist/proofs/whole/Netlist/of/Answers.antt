@@ -1,4 +1,4 @@
-use Rattle.std.proofs.Common.{vec_items, ◌∙◌}
+use Rattle.std.proofs.Common.{vec_items, ◌∙◌, arith}
 use Rattle.std.proofs.lemmas.List.{length-map}
 use Rattle.circuit.specs.Tables.{cell_of, cells_of}
 use Rattle.order.proofs.Orders.{sorted_listed}
@@ -6,5 +6,14 @@ use Rattle.netlist.proofs.whole.Netlist.of.Goals as goal
 
 pub invariant_of-result : goal.invariant_of-result
 invariant_of-result c =
-    let listed = sorted_listed (cells_of (vec_items c.args.parts.tables.nets) (vec_items c.args.parts.tables.pins)) (vec_items c.args.order) c.requires in
-    record { size = listed.0 ∙ length-map (vec_items c.args.parts.tables.nets) (cell_of (vec_items c.args.parts.tables.pins)); follows = listed.1; complete = listed.2 }
+    let t = c.args.parts.tables in
+    let listed = sorted_listed (cells_of (vec_items t.nets) (vec_items t.pins)) (vec_items c.args.order) c.requires.sorted in
+    record {
+      fits = c.requires.fits;
+      named = omega (arith, t.paired, t.definitions.ok.0, t.nets.ok.0);
+      distinct = c.requires.distinct;
+      read = c.requires.readers;
+      size = listed.0 ∙ length-map (vec_items t.nets) (cell_of (vec_items t.pins));
+      follows = listed.1;
+      complete = listed.2;
+    }
