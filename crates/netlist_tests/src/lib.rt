@@ -95,7 +95,9 @@ mod tests {
         let mut netlist = Netlist::empty(heap);
         // q reads a at two places, and stands above p
         let text = b"INPUT(a)\nOUTPUT(y)\nq = XOR(a, p, a)\np = BUFF(a)\ny = AND(q, p)\n";
-        netlist.load(heap, text, cells.as_mut_slice(), links.as_mut_slice()).map_err(|_| "refused")?;
+        netlist
+            .load(heap, text, cells.as_mut_slice(), links.as_mut_slice())
+            .map_err(|_| "refused")?;
         let none: &[u16] = &[];
         assert_eq!(rt; netlist.readers(0), Some(&[1u16, 2][..]));
         assert_eq!(rt; netlist.readers(1), Some(&[3u16][..]));

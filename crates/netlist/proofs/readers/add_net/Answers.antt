@@ -31,10 +31,10 @@ loop-read-preserved c =
     let read = subst (Reads gates c.args.net) c.unwrap-read-items.ensures c.operands.ensures in
     let size : length (cells_in gates) ≡ length gates.nets.now = length-map gates.nets.now (cell_of gates.pins.now) in
     let inside : k < length (cells_in gates) =
-        omega (arith, read_net_lem gates.nets.now gates.pins.now gates.formed c.args.net i c.requires.net (omega (arith, c.loop-read-test.true, ap length read.1)), ap (λ (xs : List ℕ). get_or xs i 0) read.1, size) in
+    omega (arith, read_net_lem gates.nets.now gates.pins.now gates.formed c.args.net i c.requires.net (omega (arith, c.loop-read-test.true, ap length read.1)), ap (λ (xs : List ℕ). get_or xs i 0) read.1, size) in
     let lent = c.index_mut-own.result.now in
     let was : own ≡ get_or (lists_in vs) k [] =
-        c.deref.ensures.value ∙ ap vec_items c.index_mut-own.ensures.value ∙ sym (get_or-map (λ (v : Vec ℕ Global). vec_items v) vs k lent [] (omega (arith, inside, inv.size))) in
+    c.deref.ensures.value ∙ ap vec_items c.index_mut-own.ensures.value ∙ sym (get_or-map (λ (v : Vec ℕ Global). vec_items v) vs k lent [] (omega (arith, inside, inv.size))) in
     let P : List ℕ → Type 0 = λ xs. ReadSoFar (cells_in gates) c.args.net xs (vec_items c.if-not-ends_with.readers) in
     subst P (sym more) (elim c.if-not-ends_with.branch [
       | then-not-ends_with+in_ok-push w ↦
