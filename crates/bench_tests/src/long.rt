@@ -1,6 +1,7 @@
 // Texts at the limits of counts and of bytes.
 use crate::behind;
 use crate::told::tell_behind;
+use std::io;
 
 const NOT: &str = "=NOT(a)\n";
 
@@ -14,19 +15,19 @@ fn tell_lines(
     gate: &str,
     lines: u16,
     cases: &[(&str, &str)],
-) -> anyhow::Result<()> {
+) -> io::Result<()> {
     let mut text = String::new(rt.alloc());
     for n in 0..ports {
-        writeln!(text, "{port}({n:04})")?;
+        text.push_str(format!(in rt.alloc(); "{port}({n:04})\n")?.as_str())?;
     }
     for n in ports..lines {
-        write!(text, "{n:04}{gate}")?;
+        text.push_str(format!(in rt.alloc(); "{n:04}{gate}")?.as_str())?;
     }
-    tell_behind(rt, text.as_str(), cases)
+    tell_behind(rt, &mut text.into_bytes(), cases)
 }
 
 // The texts at the limits of inputs, outputs, nets and pins.
-pub(crate) fn tell_limits(rt: &HostRuntime) -> anyhow::Result<()> {
+pub(crate) fn tell_limits(rt: &HostRuntime) -> io::Result<()> {
     tell_lines(rt, "INPUT", 64, "", 64, &behind::INPUTS)?;
     tell_lines(rt, "OUTPUT", 64, "", 64, &behind::OUTPUTS)?;
     tell_lines(rt, "INPUT", 64, NOT, 2048, &behind::NETS)?;
@@ -41,14 +42,14 @@ fn tell_long(
     piece: &str,
     times: usize,
     cases: &[(&str, &str)],
-) -> anyhow::Result<()> {
-    let pieces = piece.repeat(rt.alloc(), times)?;
-    let text = [start, pieces.as_str()].concat(rt.alloc())?;
-    tell_behind(rt, text.as_str(), cases)
+) -> io::Result<()> {
+    let mut text = piece.repeat(rt.alloc(), times)?;
+    text.insert_str(0, start)?;
+    tell_behind(rt, &mut text.into_bytes(), cases)
 }
 
 // The texts at the limit of bytes, and with the longest lines.
-pub(crate) fn tell_lengths(rt: &HostRuntime) -> anyhow::Result<()> {
+pub(crate) fn tell_lengths(rt: &HostRuntime) -> io::Result<()> {
     tell_long(rt, "INPUT(a)\n#", "x", 65525, &behind::COMMENT)?;
     tell_long(rt, "", "\n", 65535, &behind::NEWLINES)?;
     tell_long(rt, ")", "\n", 65535, &behind::FAULT)?;

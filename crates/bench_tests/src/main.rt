@@ -6,7 +6,9 @@ mod long;
 mod told;
 mod written;
 
-fn main(rt: HostRuntime) -> anyhow::Result<()> {
+use std::io;
+
+fn main(rt: HostRuntime) -> io::Result<()> {
     written::tell_written(&rt)?;
     long::tell_limits(&rt)?;
     long::tell_lengths(&rt)

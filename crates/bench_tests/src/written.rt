@@ -1,17 +1,22 @@
 // Texts that are written out on standard input, a line for each: its label, `|`, and the text with escapes.
-ghost use Rattle.std.specs.Prelude.{◌<◌, length, IfSome};
+ghost use Rattle.std.specs.Prelude.{◌≡◌, ◌<◌, ◌≤◌, length, IfSome};
 
 use crate::told::tell_text;
 use std::alloc::AllocError;
+use std::io;
 use std::io::Read;
 
 // No text that is written out is longer.
 const LONGEST: usize = 128;
 
-// What a hexadecimal digit stands for; 0 for any other letter, which no text has there.
+// What a hexadecimal digit stands for; 0 for any other letter, a capital too, which no text has there.
 fn hex(digit: u8) -> u8
-    ensures { result < 16 }
+    ensures small { result < 16 }
+    ensures capital { 65 ≤ digit → digit ≤ 90 → result ≡ 0 }
 {
+    if digit.is_ascii_uppercase() {
+        return 0;
+    }
     char::from(digit).to_digit(16).unwrap_or(0) as u8
 }
 
@@ -46,7 +51,7 @@ fn push_meant(text: &mut Vec<u8>, written: &[u8]) -> Result<(), AllocError> {
     Ok(())
 }
 
-pub(crate) fn tell_written(rt: &HostRuntime) -> anyhow::Result<()> {
+pub(crate) fn tell_written(rt: &HostRuntime) -> io::Result<()> {
     let mut input = String::new(rt.alloc());
     rt.stdin().read_to_string(&mut input)?;
     let mut text = Vec::with_capacity(rt.alloc(), LONGEST)?;

@@ -2,12 +2,11 @@
 use Rattle.std.proofs.Common.{◌≡◌, ℕ, ◌<◌, List, [], ◌∷◌, ◌++◌, Bool, true, false, cond, Some, None, Option, map, length, get_or, vec_items, vec_len, refl, sym, subst, ◌∙◌, ⊎_elim, arith}
 use Rattle.std.proofs.lemmas.List.{length-map, length_push, get_or_append_left, get_or_push, map_push}
 use Rattle.std.proofs.lemmas.Bool.{cases_lt}
-use Rattle.std.proofs.lemmas.Map.Text.{hash_map_updates_str}
 use Rattle.std.proofs.lemmas.Slice.Eq.{bytes_eq-Decides}
 use Rattle.std.specs.Bool.{Decides}
 use Rattle.std.specs.HashMap.{HashMap, Updates}
 use Rattle.std.specs.Str.{bytes_eq}
-use denote.Ref.{Bor}
+use Rattle.names.specs.declared.key.Key.{Key}
 use Rattle.names.specs.declared.name.Name.{Name}
 use Rattle.names.specs.declared.table.Names.{Names}
 use Rattle.names.specs.LastPlaces.{LastPlace, HasLastPlaces, place_in}
@@ -47,7 +46,9 @@ place_after ns m n k o true e d last = subst (λ x. LastPlace (ns ++ m ∷ []) x
 place_after ns m n k o false e d last = old_place ns m n (λ q. let r = d.1 q in cc) o last
 
 -- one name more, and its place in the map
-pub last_after : {S : Type 0} (old new : List Name) (places more : HashMap (Bor (List ℕ)) ℕ S) (name : Name) (k : ℕ) → new ≡ old ++ name ∷ [] → k ≡ length (map bytes_of old) → Updates (λ (x y : Bor (List ℕ)). bytes_eq x.now y.now) places more name.bytes (Some k) → HasLastPlaces (map bytes_of old) places → HasLastPlaces (map bytes_of new) more
-last_after old new places more name k pushed e put last n =
+pub last_after : {S : Type 0} (old new : List Name) (places more : HashMap Key ℕ S) (name : Name) (key : Key) (k : ℕ) → new ≡ old ++ name ∷ [] → k ≡ length (map bytes_of old) → key.0 ≡ name.bytes → Updates (λ (x y : Key). bytes_eq x.0.now y.0.now) places more key (Some k) → HasLastPlaces (map bytes_of old) places → HasLastPlaces (map bytes_of new) more
+last_after old new places more name key k pushed e same put last n =
     let m = name.bytes.now in
-    rw (pushed, map_push bytes_of old name, hash_map_updates_str m places more (Some k) put n) (place_after (map bytes_of old) m n k (place_in places n) (bytes_eq m n) e (bytes_eq-Decides m n) (last n))
+    let query : Key = record key { 0 = record key.0 { now = n } } in
+    let after : place_in more n ≡ cond (bytes_eq m n) (Some k) (place_in places n) = subst (λ b. place_in more n ≡ cond (bytes_eq b.now n) (Some k) (place_in places n)) same (put.0 query) in
+    rw (pushed, map_push bytes_of old name, after) (place_after (map bytes_of old) m n k (place_in places n) (bytes_eq m n) e (bytes_eq-Decides m n) (last n))

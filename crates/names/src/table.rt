@@ -4,6 +4,7 @@ ghost use Rattle.std.specs.HashMap.{spare};
 ghost use Rattle.names.specs.Places.{bytes_of};
 ghost use Rattle.names.specs.LastPlaces.{HasLastPlaces, HasLastPlaces-prop};
 
+use crate::key::Key;
 use crate::name::Name;
 use model::full::Full;
 use std::alloc::{AllocError, Global};
@@ -13,7 +14,7 @@ use std::collections::HashMap;
 pub struct Names<'a> {
     names: Vec<Name<'a>>,
     // by its bytes, the last place of a name
-    places: HashMap<&'a [u8], u16>,
+    places: HashMap<Key<'a>, u16>,
     most: u16,
     ghost room: { most ≤ vec_capacity names },
     ghost within: { vec_len names ≤ most },
@@ -53,7 +54,7 @@ impl<'a> Names<'a> {
         }
         self.names.push_reserved(name);
         // The place is below `most`, so that no bit is lost; and the map has room to spare, so that this never fails.
-        let put: Result<_, _> = self.places.insert(name.bytes, place as u16);
+        let put: Result<_, _> = self.places.insert(Key(name.bytes), place as u16);
         let _ = put.unwrap();
         Ok(())
     }
@@ -63,6 +64,8 @@ impl<'a> Names<'a> {
     pub fn find(&self, bytes: &[u8]) -> Option<usize>
         ensures { LastPlace (held self.now) bytes.now result }
     {
-        self.places.get(bytes).map(|place| usize::from(*place))
+        self.places
+            .get(&Key(bytes))
+            .map(|place| usize::from(*place))
     }
 }

@@ -1,5 +1,5 @@
 // The evaluation order of a netlist, or the first net that depends on a circle: walks back from each net in line
-// order, without recursion. Each net is entered once.
+// order, without recursion. Each net is entered once; all walks together make at most pins + 2 x nets turns.
 // A number of 16 bits indexes by `as`: it always fits, so that `usize::from` would say no more at each index. Narrowed by `as`, the
 // check proves that it loses no bit.
 #![tactic(auto)]

@@ -1,5 +1,5 @@
 -- A file is its header and then its entries, one behind the other; how long they are.
-use Rattle.std.proofs.Common.{◌≡◌, ℕ, suc, ◌+◌, ◌-◌, ◌*◌, ◌<◌, ◌≤◌, ◌^◌, List, [], ◌∷◌, ◌++◌, length, get_or, take, fold, min, Fits, w64, refl, ap, ◌∙◌, sym, append_assoc, arith, length-append}
+use Rattle.std.proofs.Common.{◌≡◌, ℕ, suc, ◌+◌, ◌-◌, ◌*◌, ◌<◌, ◌≤◌, List, [], ◌∷◌, ◌++◌, length, get_or, take, Fits, w64, refl, ap, ◌∙◌, sym, append_assoc, arith, length-append}
 use Rattle.std.specs.List.{sum_by, flat_map}
 use Rattle.std.proofs.lemmas.Grind.{flat_map-append}
 use Rattle.std.proofs.lemmas.List.{append-nil, take_more}
@@ -18,18 +18,6 @@ pub numbers_small : (ns : List ℕ) → ((i : ℕ) → Fits w64 (get_or ns i 0))
 numbers_small [] h = omega arith
 numbers_small (n ∷ ns) h = omega (arith, sum_by-cons (λ m. length (number_bytes m)) n ns, word_length n (omega (arith, h 0)), numbers_small ns (λ i. h (suc i)))
 
--- a sum that stops at the largest number
-abbrev pub capped : ℕ → ℕ
-capped n = min n (2 ^ 64 - 1)
-
-lengths_sum : {X : Type 0} (f : X → List ℕ) (xs : List X) (n : ℕ) → fold (λ sum x. capped (sum + length (f x))) (capped n) xs ≡ capped (n + length (flat_map f xs))
-lengths_sum f [] n = ap capped (omega arith)
-lengths_sum f (x ∷ xs) n =
-    let e : capped (capped n + length (f x)) ≡ capped (n + length (f x)) = omega arith in
-    ap (λ k. fold (λ sum y. capped (sum + length (f y))) k xs) e
-    ∙ lengths_sum f xs (n + length (f x))
-    ∙ ap capped (omega (arith, length-append (f x) (flat_map f xs)))
-
 abbrev pub entry_bytes : Entry → List ℕ
 entry_bytes e = numbers_bytes (entry_numbers_of e)
 
@@ -44,12 +32,12 @@ module _ (inputs outputs : ℕ) (deck : List Entry) where
   pub file_split : file_bytes inputs outputs deck ≡ header_bytes ++ flat_map entry_bytes deck
   file_split = flat_map-append number_bytes (header_numbers inputs outputs (length deck)) (flat_map entry_numbers_of deck) ∙ ap (λ zs. header_bytes ++ zs) (entries_bytes deck)
 
-  pub file_size : (n : ℕ) → n ≡ length header_bytes → n < 2 ^ 64 → fold (λ sum e. capped (sum + length (entry_bytes e))) n deck ≡ capped (length (file_bytes inputs outputs deck))
-  file_size n e h =
-      let s : n ≡ capped n = omega arith in
-      ap (λ k. fold (λ sum y. capped (sum + length (entry_bytes y))) k deck) s
-      ∙ lengths_sum entry_bytes deck n
-      ∙ ap capped (omega (arith, ap length file_split, length-append header_bytes (flat_map entry_bytes deck)))
+  pub file_size : length (file_bytes inputs outputs deck) ≡ length header_bytes + length (flat_map entry_bytes deck)
+  file_size = ap length file_split ∙ length-append header_bytes (flat_map entry_bytes deck)
+
+  -- a room counted down: behind the header
+  pub file_left : (n room left : ℕ) → n ≡ length header_bytes → n ≤ room → left ≡ room - n → left + length (header_bytes ++ flat_map entry_bytes (take 0 deck)) ≡ room
+  file_left n room left e h l = omega (arith, e, h, l, length-append header_bytes [])
 
   -- the entry that stands for one past the end
   abbrev pub blank : Entry
@@ -63,4 +51,12 @@ module _ (inputs outputs : ℕ) (deck : List Entry) where
 
     -- where there is room for the file, there is for its next entry
     pub split_room : length (header_bytes ++ flat_map entry_bytes (take i deck)) + length (entry_bytes (get_or deck i blank)) ≤ length (file_bytes inputs outputs deck)
-    split_room = omega (arith, ap length file_split, length-append header_bytes (flat_map entry_bytes deck), length-append header_bytes (flat_map entry_bytes (take i deck)), length-flat_map-take entry_bytes deck i blank h)
+    split_room = omega (arith, file_size, length-append header_bytes (flat_map entry_bytes (take i deck)), length-flat_map-take entry_bytes deck i blank h)
+
+    -- a room counted down: behind one entry more, or over
+    module _ (room left n : ℕ) (so_far : left + length (header_bytes ++ flat_map entry_bytes (take i deck)) ≡ room) (e : n ≡ length (entry_bytes (get_or deck i blank))) where
+      pub split_left : (less : ℕ) → n ≤ left → less ≡ left - n → less + length (header_bytes ++ flat_map entry_bytes (take (i + 1) deck)) ≡ room
+      split_left less l q = omega (arith, so_far, e, l, q, ap length split_next, length-append (header_bytes ++ flat_map entry_bytes (take i deck)) (entry_bytes (get_or deck i blank)))
+
+      pub split_over : (n ≤ left → ⊥) → room < length (file_bytes inputs outputs deck)
+      split_over over = omega (arith, so_far, e, over, split_room)

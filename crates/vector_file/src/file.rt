@@ -1,5 +1,5 @@
 // The file: the format's number, how many inputs, outputs and vectors there are, then each vector with its response.
-ghost use Rattle.std.specs.Prelude.{◌≡◌, ◌-◌, ◌^◌, length, min};
+ghost use Rattle.std.specs.Prelude.{◌≡◌, ◌+◌, ◌<◌, length, MatchOption};
 ghost use Rattle.report.specs.Outcome.{Written};
 ghost use Rattle.vector_file.specs.Files.{header_numbers, file_bytes, EqualFilesEqualDecks};
 
@@ -31,14 +31,15 @@ impl VectorFile<'_> {
         ]
     }
 
-    // How many bytes the file has. The largest number stands for all that no buffer could hold, so that no sum wraps.
-    fn length(&self) -> usize
-        ensures { result ≡ min (length (file_bytes self.now.inputs self.now.outputs self.now.deck.now)) (2 ^ 64 - 1) }
+    // How much of a room is left behind the file; none where the room is too short, as soon as that shows.
+    fn room_behind(&self, room: usize) -> Option<usize>
+        ensures { MatchOption result (room < length (file_bytes self.now.inputs self.now.outputs self.now.deck.now)) (λ left. left + length (file_bytes self.now.inputs self.now.outputs self.now.deck.now) ≡ room) }
     {
-        self.deck.iter().fold(
-            numbers_length(&self.header()),
-            |sum, entry| sum.saturating_add(entry.length()),
-        )
+        let mut left = room.checked_sub(numbers_length(&self.header()))?;
+        for entry in self.deck {
+            left = left.checked_sub(entry.length())?;
+        }
+        Some(left)
     }
 
     // Writes the file at the start of a buffer, or nothing where it is too short.
@@ -47,7 +48,7 @@ impl VectorFile<'_> {
         ensures written { Written (file_bytes self.now.inputs self.now.outputs self.now.deck.now) out.old result out.new }
         ensures equal_files_equal_decks { EqualFilesEqualDecks self.now.inputs self.now.outputs self.now.deck.now }
     {
-        if out.len() < self.length() {
+        if self.room_behind(out.len()).is_none() {
             return Err(ShortBuffer);
         }
         let mut at = write_numbers(&self.header(), out);

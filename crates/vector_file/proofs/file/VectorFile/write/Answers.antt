@@ -8,9 +8,9 @@ use Rattle.vector_file.proofs.Readable.{equal_files_equal_decks}
 use Rattle.vector_file.proofs.Splits.{entry_bytes, header_bytes, file_split, split_next, split_room}
 use Rattle.vector_file.proofs.file.VectorFile.write.Goals as goal
 
-pub returns-then-out-length-clause-equal_files_equal_decks :
-    goal.returns-then-out-length-clause-equal_files_equal_decks
-returns-then-out-length-clause-equal_files_equal_decks c =
+pub returns-then-is_none-clause-equal_files_equal_decks :
+    goal.returns-then-is_none-clause-equal_files_equal_decks
+returns-then-is_none-clause-equal_files_equal_decks c =
     let f = c.args.self.now in equal_files_equal_decks f.inputs f.outputs f.deck.now
 
 pub loop-entry-preserved : goal.loop-entry-preserved
