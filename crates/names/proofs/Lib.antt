@@ -1,2 +1,3 @@
-mod LastPlaces
+mod Chains
+mod Held
 mod Buckets

@@ -1,3 +1,3 @@
 pub mod Places
-pub mod LastPlaces
+pub mod Buckets
 pub mod Tables

@@ -1,6 +1,5 @@
 // Names as parts of a text, and the table of the names seen so far.
 #![tactic(auto)]
 
-mod key;
 pub mod name;
 pub mod table;
