@@ -34,6 +34,7 @@ pub(crate) fn tell_text(rt: &HostRuntime, label: &str, text: &[u8]) -> io::Resul
 }
 
 // Tells of a long text with each of the cases behind it, which are taken away again.
+// One buffer for all cases: a copy of the text for each takes a quarter more memory.
 pub(crate) fn tell_behind(
     rt: &HostRuntime,
     text: &mut Vec<u8>,
